@@ -1,243 +1,210 @@
 // The commands that ask, and their answers.
-use crate::saying::{say_after, say_list, say_reasons};
-use crate::solving::{ask_empty_parts, solve};
-use building::Counts;
-use building::adding::{reasoned, uncount};
+use crate::Store;
+use crate::calling::{
+    deep_form, empty_parts, explain, find, forced_length, go_back, join, nf_equal,
+    nf_equal_explain, normal_form, resolve, set_mark, step,
+};
+use crate::marking::{say_classes, say_marked, say_trail};
+use crate::saying::{say_after, say_list, say_reasons, say_refused};
+use crate::solving::{say_outcome, say_parts};
+use building::adding::reasoned;
 use building::words::narrow;
-use engine::Found;
+use commands::numbers::guard_of_word;
+use equation::Outcome;
 use forced::Forced;
-use lines::lending::{front, rest};
-use lines::saying::{say, say_count};
-use normalize::{DeepForm, Form};
-use records::fields::word;
-use records::{Added, State};
+use lines::lending::front_mut;
+use lines::reading::Command;
+use records::{LIST_LIMIT, Refusal, State};
+use std::fmt::Display;
 use std::io;
-use wordeq::Equality;
 
-pub fn state(c: Counts) -> State {
-    State::of(
-        c.terms as usize,
-        c.cells as usize,
-        c.chars as usize,
-        c.reasons,
-        c.keys,
-        c.names,
-    )
+// What a command asks. Two sides are the first atoms of the list, so many, and the rest.
+#[derive(Clone, Copy)]
+pub enum Question {
+    Find(u32),
+    Explain {
+        a: u32,
+        b: u32,
+        stays: bool,
+    },
+    NormalForm(u32),
+    DeepForm(u32),
+    Resolve {
+        p: usize,
+        guard: i32,
+        stays: bool,
+    },
+    Step {
+        e: u32,
+        guard: i32,
+    },
+    EmptyParts(usize),
+    ForcedLength(usize),
+    NfEqual(usize),
+    NfEqualExplain(usize),
+    Join {
+        a: u32,
+        b: u32,
+        kind: u32,
+        number: u32,
+    },
+    SetMark,
+    GoBack(u32),
+    Classes,
+    Trail,
 }
 
-fn say_found(rt: &impl Print, r: Found) -> io::Result<()> {
+pub fn question_of(c: Command<'_>) -> Option<Question> {
+    let a = c.number(1);
+    let b = c.number(2);
+    let p = a as usize;
+    let guard = guard_of_word(b);
+    let q = match c.letter {
+        b'f' => Question::Find(a),
+        b'e' => Question::Explain { a, b, stays: false },
+        b'E' => Question::Explain { a, b, stays: true },
+        b'n' => Question::NormalForm(a),
+        b'd' => Question::DeepForm(a),
+        b'r' => Question::Resolve {
+            p,
+            guard,
+            stays: false,
+        },
+        b'B' => Question::Resolve {
+            p,
+            guard,
+            stays: true,
+        },
+        b's' => Question::Step { e: a, guard },
+        b'a' => Question::EmptyParts(p),
+        b'h' => Question::ForcedLength(p),
+        b'q' => Question::NfEqual(p),
+        b'Q' => Question::NfEqualExplain(p),
+        b'j' => Question::Join {
+            a,
+            b,
+            kind: c.number(3),
+            number: c.number(4),
+        },
+        b'm' => Question::SetMark,
+        b'g' => Question::GoBack(a),
+        b'p' => Question::Classes,
+        b't' => Question::Trail,
+        _ => return None,
+    };
+    Some(q)
+}
+
+// A root, or whether two lists are equal.
+fn say_value<T: Display + Drop>(rt: &impl Print, r: Result<T, Refusal>) -> io::Result<()> {
     match r {
-        Found::Root(t) => say(rt, b": ", t),
-        Found::Refused(k) => say(rt, b": refused ", k),
+        Ok(x) => print!(rt; ": {x}"),
+        Err(k) => say_refused(rt, k),
     }
-}
-
-fn say_equality(rt: &impl Print, r: Equality) -> io::Result<()> {
-    match r {
-        Equality::Is(b) => {
-            if b {
-                return rt.write_all(b": true");
-            }
-            rt.write_all(b": false")
-        }
-        Equality::Refused(k) => say(rt, b": refused ", k),
-    }
-}
-
-fn say_sides(rt: &impl Print, k: usize, c: usize, l: usize) -> io::Result<()> {
-    say_count(rt, b": ", k)?;
-    say_count(rt, b" ", c)?;
-    say_count(rt, b" ", l)
 }
 
 // k, c and l, then m and r, or the shortage.
-fn say_forced(rt: &impl Print, f: Forced) -> io::Result<()> {
-    match f {
-        Forced::Spans(k, c, l, m, r) => {
-            say_sides(rt, k, c, l)?;
-            say_count(rt, b", ", m)?;
-            say_count(rt, b" ", r)
+fn say_forced(rt: &impl Print, r: Result<Forced, Refusal>) -> io::Result<()> {
+    match r {
+        Ok(Forced::Spans(k, c, l, m, r)) => print!(rt; ": {k} {c} {l}, {m} {r}"),
+        Ok(Forced::Shortage(k, c, l, d)) => print!(rt; ": {k} {c} {l}, short {d}"),
+        Err(k) => say_refused(rt, k),
+    }
+}
+
+fn say_added(rt: &impl Print, r: Result<State, Refusal>, s: &Store) -> io::Result<()> {
+    match r {
+        Ok(d) => {
+            rt.write_all(b": ")?;
+            say_reasons(rt, &s.reasons, d.reasons)
         }
-        Forced::Shortage(k, c, l, d) => {
-            say_sides(rt, k, c, l)?;
-            say_count(rt, b", short ", d)
-        }
-        Forced::Refused(j) => say(rt, b": refused ", j),
+        Err(k) => say_refused(rt, k),
     }
 }
 
-// find, nf_equal and forced_length write nothing.
-fn ask_reading(
-    rt: &impl Print,
-    l: u8,
-    t: u32,
-    terms: &[u32],
-    cells: &[u32],
-    chars: &[u32],
-    reasons: &[u32],
-    keys: &[u32],
-    known: &[u32],
-    s: State,
-) -> io::Result<()> {
-    let at = t as usize;
-    let lhs = front(known, at);
-    let rhs = rest(known, at);
-    match l {
-        102 => say_found(rt, engine::find(terms, cells, chars, reasons, keys, s, t)),
-        113 => say_equality(
-            rt,
-            wordeq::nf_equal(terms, cells, chars, reasons, keys, s, lhs, rhs),
-        ),
-        _ => say_forced(
-            rt,
-            forced::forced_length(terms, cells, chars, reasons, keys, s, lhs, rhs),
-        ),
-    }
-}
-
-fn explain(
-    l: u8,
-    a: u32,
-    b: u32,
-    terms: &[u32],
-    cells: &[u32],
-    chars: &[u32],
-    reasons: &mut [u32],
-    keys: &[u32],
-    known: &[u32],
-    s: State,
-) -> Added {
-    if l == 81 {
-        let lhs = front(known, a as usize);
-        let rhs = rest(known, a as usize);
-        return wordeq::nf_equal_explain(terms, cells, chars, reasons, keys, s, lhs, rhs);
-    }
-    engine::explain(terms, cells, chars, reasons, keys, s, a, b)
-}
-
-// explain and nf_equal_explain: the answer and the reasons that are counted now, which stay after E.
+// The reasons too that are counted and lent, where explain is refused.
 fn say_explained(
     rt: &impl Print,
-    l: u8,
-    r: Added,
-    reasons: &[u32],
-    c: Counts,
-) -> io::Result<Counts> {
+    r: Result<State, Refusal>,
+    stays: bool,
+    s: &mut Store,
+) -> io::Result<()> {
+    say_added(rt, r, s)?;
+    let count = s.counts.reasons;
     match r {
-        Added::Counts(d) => {
-            rt.write_all(b": ")?;
-            say_reasons(rt, reasons, d.reasons)?;
-            if l == 69 {
-                return Ok(reasoned(c, d.reasons));
+        Ok(d) => {
+            if stays {
+                s.counts = reasoned(s.counts, d.reasons);
             }
+            Ok(())
         }
-        Added::Refused(k) => {
-            say(rt, b": refused ", k)?;
-            if l != 81 {
-                rt.write_all(b", ")?;
-                say_reasons(rt, reasons, c.reasons)?;
-            }
+        Err(_) => {
+            let ((_, _, _, reasons, _), _, _) = s.lent();
+            rt.write_all(b", ")?;
+            say_reasons(rt, reasons, count)
         }
-    }
-    Ok(c)
-}
-
-fn form(
-    l: u8,
-    t: u32,
-    terms: &mut [u32],
-    cells: &[u32],
-    chars: &mut [u32],
-    reasons: &mut [u32],
-    keys: &[u32],
-    known: &[u32],
-    list: &mut [u32],
-    s: State,
-) -> DeepForm {
-    if l == 100 {
-        return normalize::deep_normal_form_cited(
-            terms, cells, chars, reasons, keys, s, known, t, list,
-        );
-    }
-    match normalize::normal_form_cited(terms, cells, chars, reasons, keys, s, known, t, list) {
-        Form::List(n, d) => DeepForm::List(n, d),
-        Form::Refused(k) => DeepForm::Refused(k),
     }
 }
 
+// What a form made is not counted from here on.
 fn say_form(
     rt: &impl Print,
-    f: DeepForm,
-    terms: &[u32],
-    chars: &[u32],
-    reasons: &[u32],
+    r: Result<(Option<usize>, State), Refusal>,
     list: &[u32],
-    c: Counts,
+    s: &mut Store,
 ) -> io::Result<()> {
-    match f {
-        DeepForm::List(n, d) => {
+    let (form, d) = match r {
+        Ok(x) => x,
+        Err(k) => return say_refused(rt, k),
+    };
+    match form {
+        Some(n) => {
             rt.write_all(b": ")?;
             say_list(rt, list, n)?;
-            say_after(rt, terms, chars, reasons, c, d)
         }
-        DeepForm::None(d) => {
-            rt.write_all(b": none")?;
-            say_after(rt, terms, chars, reasons, c, d)
-        }
-        DeepForm::Refused(k) => say(rt, b": refused ", k),
+        None => rt.write_all(b": none")?,
     }
+    say_after(rt, s, d)?;
+    s.uncount(narrow(d.terms));
+    Ok(())
 }
 
-// How many terms are counted after the call.
-fn terms_after(f: DeepForm, c: Counts) -> u32 {
-    match f {
-        DeepForm::List(n, d) => narrow(d.terms),
-        DeepForm::None(d) => narrow(d.terms),
-        DeepForm::Refused(k) => c.terms,
-    }
-}
-
-// Answers what is counted from here on.
-pub fn ask(
-    rt: &impl Print,
-    l: u8,
-    n: &[u32],
-    terms: &mut [u32],
-    cells: &mut [u32],
-    chars: &mut [u32],
-    reasons: &mut [u32],
-    keys: &mut [u32],
-    known: &[u32],
-    list: &mut [u32],
-    c: Counts,
-) -> io::Result<Counts> {
-    let a = word(n, 1);
-    let b = word(n, 2);
-    let s = state(c);
-    match l {
-        102 | 113 | 104 => {
-            ask_reading(rt, l, a, terms, cells, chars, reasons, keys, known, s)?;
-            Ok(c)
+pub fn ask(rt: &impl Print, q: Question, s: &mut Store) -> io::Result<()> {
+    let mut words: [u32; LIST_LIMIT] = [0; LIST_LIMIT];
+    let list = front_mut(&mut words, s.counts.list);
+    match q {
+        Question::Find(t) => say_value(rt, find(s, t)),
+        Question::Explain { a, b, stays } => say_explained(rt, explain(s, a, b), stays, s),
+        Question::NormalForm(t) => {
+            let r = normal_form(s, t, list).map(|(n, d)| (Some(n), d));
+            say_form(rt, r, list, s)
         }
-        101 | 69 | 81 => {
-            let r = explain(l, a, b, terms, cells, chars, reasons, keys, known, s);
-            say_explained(rt, l, r, reasons, c)
+        Question::DeepForm(t) => say_form(rt, deep_form(s, t, list), list, s),
+        Question::Resolve { p, guard, stays } => {
+            let r = resolve(s, p, guard, list).map(Outcome::Answered);
+            let d = say_outcome(rt, r, list, s)?;
+            s.settle(d, stays);
+            Ok(())
         }
-        110 | 100 => {
-            let f = form(l, a, terms, cells, chars, reasons, keys, known, list, s);
-            say_form(rt, f, terms, chars, reasons, list, c)?;
-            Ok(uncount(terms, cells, chars, terms_after(f, c), c))
+        Question::Step { e, guard } => {
+            let d = say_outcome(rt, step(s, e, guard, list), list, s)?;
+            s.settle(d, false);
+            Ok(())
         }
-        97 => ask_empty_parts(rt, a, terms, cells, chars, reasons, keys, known, list, c),
-        _ => solve(
-            rt, l, a, b, terms, cells, chars, reasons, keys, known, list, c,
-        ),
-    }
-}
-
-pub fn is_ask(l: u8) -> bool {
-    match l {
-        102 | 101 | 69 | 110 | 100 | 114 | 66 | 115 | 97 | 104 | 113 | 81 => true,
-        _ => false,
+        Question::EmptyParts(p) => {
+            let d = say_parts(rt, empty_parts(s, p, list), list, s)?;
+            s.settle(d, true);
+            Ok(())
+        }
+        Question::ForcedLength(p) => say_forced(rt, forced_length(s, p)),
+        Question::NfEqual(p) => say_value(rt, nf_equal(s, p)),
+        Question::NfEqualExplain(p) => say_added(rt, nf_equal_explain(s, p), s),
+        Question::Join { a, b, kind, number } => {
+            say_marked(rt, join(s, a, b, kind, number), &mut s.marks)
+        }
+        Question::SetMark => say_marked(rt, set_mark(s), &mut s.marks),
+        Question::GoBack(n) => say_marked(rt, go_back(s, n), &mut s.marks),
+        Question::Classes => say_classes(rt, &s.terms, s.counts.terms),
+        Question::Trail => say_trail(rt, &s.marks),
     }
 }

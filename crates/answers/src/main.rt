@@ -66,21 +66,22 @@
 // as (t class-parent forest-parent label-kind label-value stamp), a recorded join as (child old-root class-root) after the marks' counts.
 #![tactic(auto)]
 
-use asking::{ask, is_ask};
-use building::adding::apply;
+use asking::{ask, question_of};
+use building::adding::{apply, uncount};
 use building::{Counts, none};
-use lending::words_of;
+use classes::trail::MARK_WORDS;
 use lines::indexing::put_index;
-use lines::input::read_text;
-use lines::lending::{front, part};
-use lines::reading::{letter, line_end};
-use marking::{is_mark, mark};
+use lines::input::{TEXT_LIMIT, read_text};
+use lines::lending::{Lent, front, front_mut};
+use lines::put;
+use lines::reading::{Command, letter};
+use marking::count;
 use reading::read;
-use records::{CELL_SLICE, CHAR_LIMIT, KEY_LIMIT, LIST_LIMIT, REASON_LIMIT, TERM_SLICE};
+use records::{CELL_SLICE, CHAR_LIMIT, KEY_LIMIT, LIST_LIMIT, REASON_LIMIT, State, TERM_SLICE};
 use std::io;
 
 pub mod asking;
-pub mod lending;
+pub mod calling;
 pub mod marking;
 pub mod reading;
 pub mod saying;
@@ -94,120 +95,143 @@ const REASON_WORDS: usize = 2 * (REASON_LIMIT + 1);
 
 const KEY_WORDS: usize = 2 * (KEY_LIMIT + 1);
 
-// How many bytes of standard input are read; what follows them is not.
-const TEXT_LIMIT: usize = 65536;
-
 // The numbers or characters of a line, its letter before them.
 const NUMBERS: usize = 256;
 
 // Two lists of atoms, and a line more than the limit.
 const KNOWN_WORDS: usize = 2 * LIST_LIMIT + NUMBERS;
 
-// A command that asks is printed with its answer. As many words are lent of each slice as the counts say.
-fn ask_line(
-    rt: &impl Print,
-    l: u8,
-    line: &[u8],
-    n: &[u32],
-    terms: &mut [u32],
-    cells: &mut [u32],
-    chars: &mut [u32],
-    reasons: &mut [u32],
-    keys: &mut [u32],
-    known: &[u32],
-    c: Counts,
-) -> io::Result<Counts> {
-    let mut list: [u32; LIST_LIMIT] = [0; LIST_LIMIT];
-    let t = part(words_of(c, 1), terms);
-    let e = part(words_of(c, 2), cells);
-    let h = part(words_of(c, 3), chars);
-    let r = part(words_of(c, 4), reasons);
-    let k = part(words_of(c, 5), keys);
-    let w = part(words_of(c, 6), &list);
-    rt.write_all(line)?;
-    let d = ask(
-        rt,
-        l,
-        n,
-        &mut terms[..t],
-        &mut cells[..e],
-        &mut chars[..h],
-        &mut reasons[..r],
-        &mut keys[..k],
-        front(known, c.known),
-        &mut list[..w],
-        c,
-    )?;
-    rt.write_all(b"\n")?;
-    Ok(d)
+// What lasts from line to line: the slices, the list, and the words of the marks; and what is counted and lent of them.
+#[derive(Drop)]
+pub struct Store {
+    pub terms: [u32; TERM_SLICE],
+    pub cells: [u32; CELL_SLICE],
+    pub chars: [u32; CHAR_WORDS],
+    pub reasons: [u32; REASON_WORDS],
+    pub keys: [u32; KEY_WORDS],
+    pub known: [u32; KNOWN_WORDS],
+    pub marks: [u32; marking::WORDS],
+    pub counts: Counts,
 }
 
-fn step(
-    rt: &impl Print,
-    line: &[u8],
-    terms: &mut [u32],
-    cells: &mut [u32],
-    chars: &mut [u32],
-    reasons: &mut [u32],
-    keys: &mut [u32],
-    known: &mut [u32],
-    marks: &mut [u32],
-    c: Counts,
-) -> io::Result<Counts> {
+impl Store {
+    fn new() -> Store {
+        Store {
+            terms: [0; TERM_SLICE],
+            cells: [0; CELL_SLICE],
+            chars: [0; CHAR_WORDS],
+            reasons: [0; REASON_WORDS],
+            keys: [0; KEY_WORDS],
+            known: [0; KNOWN_WORDS],
+            marks: [0; marking::WORDS],
+            counts: none(),
+        }
+    }
+
+    // What is counted, as a call takes it.
+    pub fn state(&self) -> State {
+        let c = self.counts;
+        State::of(
+            c.terms as usize,
+            c.cells as usize,
+            c.chars as usize,
+            c.reasons,
+            c.keys,
+            c.names,
+        )
+    }
+
+    // As many words as are lent of each slice; the list; and the words lent for marks.
+    pub fn lent(&mut self) -> (Lent<'_>, &[u32], &mut [u32]) {
+        let c = self.counts;
+        let z = c.lens;
+        let terms = &mut self.terms;
+        let cells = &mut self.cells;
+        let chars = &mut self.chars;
+        let reasons = &mut self.reasons;
+        let keys = &mut self.keys;
+        let known = &self.known;
+        let marks = &mut self.marks;
+        let slices = (
+            front_mut(terms, z.terms),
+            front_mut(cells, z.cells),
+            front_mut(chars, z.chars),
+            front_mut(reasons, z.reasons),
+            front_mut(keys, z.keys),
+        );
+        let n = c.marks.min(MARK_WORDS);
+        (slices, front(known, c.known), front_mut(marks, n))
+    }
+
+    // What a call made is not counted from here on: the terms before have their index again.
+    pub fn uncount(&mut self, made: u32) {
+        let c = self.counts;
+        uncount(&mut self.terms, &self.cells, &self.chars, made, c);
+    }
+
+    // After a call that may have made something, which stays or does not.
+    pub fn settle(&mut self, after: Counts, stays: bool) {
+        if stays {
+            self.counts = after;
+        } else {
+            self.uncount(after.terms);
+        }
+    }
+}
+
+// No record counted, no mark and no join.
+fn empty(s: &mut Store) {
+    s.counts = none();
+    count(&mut s.marks, 0, 0);
+    put_index(&mut s.terms, &s.cells, &s.chars, 0);
+}
+
+// A command that asks nothing.
+fn change(c: Command<'_>, s: &mut Store) {
+    let a = c.number(1);
+    let b = c.number(2);
+    match c.letter {
+        b'N' => empty(s),
+        b'w' => put(&mut s.marks, a as usize, b),
+        b'z' => count(&mut s.marks, a, b),
+        _ => {
+            let terms: &mut [u32] = &mut s.terms;
+            let cells: &mut [u32] = &mut s.cells;
+            let chars: &mut [u32] = &mut s.chars;
+            let reasons: &mut [u32] = &mut s.reasons;
+            let keys: &mut [u32] = &mut s.keys;
+            let slices = (terms, cells, chars, reasons, keys);
+            apply(c, slices, &mut s.known, &mut s.counts);
+        }
+    }
+}
+
+// A remark is printed as it stands, and a command that asks with its answer.
+fn step(rt: &impl Print, line: &[u8], s: &mut Store) -> io::Result<()> {
     let l = letter(line);
-    if l == 35 {
+    if l == b'#' {
         rt.write_all(line)?;
-        rt.write_all(b"\n")?;
-        return Ok(c);
+        return rt.write_all(b"\n");
     }
     let mut n: [u32; NUMBERS] = [0; NUMBERS];
     let last = read(l, line, &mut n);
-    if is_mark(l) {
-        let d = mark(
-            rt, l, line, &n, terms, cells, chars, reasons, keys, marks, c,
-        )?;
-        if l != 78 {
-            return Ok(d);
-        }
-        put_index(terms, cells, chars, d.terms);
-        return Ok(d);
-    }
-    if is_ask(l) {
-        return ask_line(
-            rt, l, line, &n, terms, cells, chars, reasons, keys, known, c,
-        );
-    }
-    Ok(apply(l, &n, last, terms, cells, chars, reasons, keys, known, c))
+    let c = Command {
+        letter: l,
+        numbers: &n,
+        last,
+    };
+    let Some(q) = question_of(c) else {
+        change(c, s);
+        return Ok(());
+    };
+    rt.write_all(line)?;
+    ask(rt, q, s)?;
+    rt.write_all(b"\n")
 }
 
-fn run(
-    rt: &impl Print,
-    text: &[u8],
-    terms: &mut [u32],
-    cells: &mut [u32],
-    chars: &mut [u32],
-    reasons: &mut [u32],
-    keys: &mut [u32],
-    known: &mut [u32],
-    marks: &mut [u32],
-) -> io::Result<()> {
-    let mut c = none();
-    let mut at: usize = 0;
-    while at < text.len() {
-        let end = line_end(text, at);
-        c = step(
-            rt,
-            &text[at..end],
-            terms,
-            cells,
-            chars,
-            reasons,
-            keys,
-            known,
-            marks,
-            c,
-        )?;
-        at = end + 1;
+fn run(rt: &impl Print, text: &[u8], s: &mut Store) -> io::Result<()> {
+    for line in text.split(|&b| b == b'\n') {
+        step(rt, line, s)?;
     }
     Ok(())
 }
@@ -215,22 +239,6 @@ fn run(
 fn main(rt: HostRuntime) -> io::Result<()> {
     let mut text = [0u8; TEXT_LIMIT];
     let len = read_text(&rt, &mut text)?;
-    let mut terms: [u32; TERM_SLICE] = [0; TERM_SLICE];
-    let mut cells: [u32; CELL_SLICE] = [0; CELL_SLICE];
-    let mut chars: [u32; CHAR_WORDS] = [0; CHAR_WORDS];
-    let mut reasons: [u32; REASON_WORDS] = [0; REASON_WORDS];
-    let mut keys: [u32; KEY_WORDS] = [0; KEY_WORDS];
-    let mut known: [u32; KNOWN_WORDS] = [0; KNOWN_WORDS];
-    let mut marks: [u32; marking::WORDS] = [0; marking::WORDS];
-    run(
-        &rt,
-        &text[..len],
-        &mut terms,
-        &mut cells,
-        &mut chars,
-        &mut reasons,
-        &mut keys,
-        &mut known,
-        &mut marks,
-    )
+    let mut s = Store::new();
+    run(&rt, front(&text, len), &mut s)
 }

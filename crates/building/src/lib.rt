@@ -4,8 +4,10 @@
 pub mod adding;
 pub mod words;
 
-// How many terms, cells, characters, reasons and keys are counted, the name counter, how many atoms the list has, and which slice is not
-// lent whole, and how many of its words are.
+use lines::lending::Lens;
+
+// How many terms, cells, characters, reasons and keys are counted, the name counter, how many atoms the list has; and how many words are
+// lent of each slice, of the list that is answered and of the marks.
 #[derive(Clone, Copy)]
 pub struct Counts {
     pub terms: u32,
@@ -15,8 +17,9 @@ pub struct Counts {
     pub keys: usize,
     pub names: u32,
     pub known: usize,
-    pub short: u32,
-    pub words: usize,
+    pub lens: Lens,
+    pub list: usize,
+    pub marks: usize,
 }
 
 // No record counted. The names that V gives have one character each, at the place of the variable's number, so 513 are counted.
@@ -29,7 +32,8 @@ pub fn none() -> Counts {
         keys: 0,
         names: 0,
         known: 0,
-        short: 0,
-        words: 0,
+        lens: Lens::WHOLE,
+        list: usize::MAX,
+        marks: usize::MAX,
     }
 }

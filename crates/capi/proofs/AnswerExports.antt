@@ -1,4 +1,5 @@
 -- An answer of wordeq, told in words.
+use Rattle.std.specs.Prelude.{Result, Ok}
 use mathlib.Core.Path.{◌≡◌, refl, sym, ap, subst, ◌∙◌}
 use mathlib.Core.Bool.{Bool, true, false, ◌&&◌}
 use mathlib.Core.List.{List, [], ◌∷◌}
@@ -16,6 +17,7 @@ use mir.Syntax.{w32}
 use mir.Val.{to_z, of_z, SFits}
 use mir.ValLaws.{to_z-of_z}
 use Rattle.records.specs.declared.State.{State}
+use Rattle.records.specs.declared.refusal.Refusal.{Refusal}
 use Rattle.records.specs.Lists.{all}
 use Rattle.records.specs.Store.{Store, ok, Work, count, is_string}
 use Rattle.records.specs.View.{Lent, store_of}
@@ -28,12 +30,12 @@ use Rattle.sides.specs.Wordeq.{Answer, done, saturated, conflict, propagate, spl
 use Rattle.sides.specs.Meaning.{Sound}
 use Rattle.sides.specs.Repeated.{Repeated, Decides}
 use Rattle.wordeq.specs.Calls.{PublicResolve, resolved}
-use Rattle.sides.proofs.Resolve.{resolve-kept, resolve_stops}
+use Rattle.sides.proofs.Resolve.{resolve-kept}
 use Rattle.sides.proofs.FewAtoms.{Few, resolve-few}
 use Rattle.capi.specs.Interface.{state_of, state_room, answer_room, roomy, over, told}
 use Rattle.capi.specs.Equations.{flag, answer_words, answer_by, answer_read, ExportedResolve}
-use Rattle.capi.specs.Working.Leaves.{written, Narrow, NarrowAnswer, tells, ToldBy, answer_telling}
-use Rattle.capi.proofs.Exports.{Tells, Shows}
+use Rattle.capi.specs.Working.Leaves.{written, Narrow, NarrowAnswer, Telling, tells, or_refuses, ToldBy, answer_telling}
+use Rattle.capi.proofs.Exports.{Tells, Shows, shows_or}
 use Rattle.capi.proofs.Listings.{list-gives, list-room, list_tellable, list_exported, list-worth, list-once, untold_list}
 
 -- THE WORK
@@ -48,7 +50,6 @@ module _ (s : Store) (l r : List ℕ) (b : Bool) (f : is_list s l && is_list s r
 pub resolve-tells : (l r : List ℕ) (g : ℤ) → Tells (resolve_arguments l r g) (resolve l r g)
 resolve-tells l r g = record {
   keeps = λ s s' x a f e. resolve-kept l r g s a (left-strings s l r _ f) (right-strings s l r _ f) s' x e;
-  stops = λ s n a f e z. let q = (resolve_stops l r g s a (left-strings s l r _ f) (right-strings s l r _ f) n e).from in absurd (omega arith);
 }
 
 -- a guard that can be negated fits so
@@ -108,7 +109,7 @@ module _ {A : Type 0} {fit : Store → Bool} {work : Work A} (can : Tells fit wo
 pub answer_narrow : (r : StepResult) {k' : List ℕ} → ((c : State) (v : List ℕ) → answer_telling r ≡ tells c v → Narrow c) → Stands r k' → NarrowAnswer r
 answer_narrow r f i = record { counts = f; split = λ d n h u e. (let j = i.split d n h u e in let p = j.three in record { list = omega arith; guard = j.guard }) }
 
-pub answer-shows : (r : StepResult) (m' : Lent) (k' : List ℕ) → Stands r k' → Shows answer_room answer_words (answer_read k') m' (resolved r m' k') (answer_telling r)
+pub answer-shows : (r : StepResult) (m' : Lent) (k' : List ℕ) → Stands r k' → Shows answer_room answer_words (answer_read k') m' (resolved (Ok r) m' k') (answer_telling r)
 answer-shows (step.Done c) m' k' i = record { value = done; outcome = refl; spelt = refl; few = omega arith; back = λ z. refl }
 answer-shows (step.Saturated c) m' k' i = record { value = saturated; outcome = refl; spelt = refl; few = omega arith; back = λ z. refl }
 answer-shows (step.Conflict c) m' k' i = record { value = conflict; outcome = refl; spelt = refl; few = omega arith; back = λ z. refl }
@@ -122,18 +123,26 @@ answer-shows (step.Split c n g u) m' k' i =
       few = omega arith;
       back = λ z. ap (λ (x : ℤ). split (take n k') x u) (to_z-of_z w32 g j.guard);
     }
-answer-shows (step.Refused n) m' k' i = refl
 
 -- RESOLVE_EQUATION
 
-pub resolve_untold : (l r : List ℕ) (g : ℤ) (m : Lent) (k w a : List ℕ) → roomy state_room w a ≡ false → ExportedResolve l r g m m k k w w a a 1
-resolve_untold l r g m k w a e = record { is = untold_list _ answer_words m k w a _ e; worth = λ z. absurd (omega arith); once = λ z. absurd (omega arith); grows = λ z y. absurd (omega arith); decides = λ v f i. absurd (i 1 refl (inl (omega arith))) }
+abbrev pub resolve_telling : Result StepResult Refusal → Telling State
+resolve_telling r = or_refuses answer_telling r
+
+pub resolve_untold : (l r : List ℕ) (g : ℤ) (m : Lent) (k w a : List ℕ) → roomy state_room w a ≡ false → {n : ℕ} → n ≡ 1 → ExportedResolve l r g m m k k w w a a n
+resolve_untold l r g m k w a e i = rw i (record {
+  is = untold_list _ answer_words m k w a _ e refl;
+  worth = λ z. absurd (omega arith);
+  once = λ z. absurd (omega arith);
+  grows = λ z y. absurd (omega arith);
+  decides = λ v f j. absurd (j 1 refl (inl (omega arith)));
+})
 
 -- the terms counted are those of the state
 pub counted : (m : Lent) (w : List ℕ) → count (store_of m (state_of w)) ≡ get_or w 0 0
 counted m w = table-length _ (get_or w 0 0)
 
-module _ {l r : List ℕ} {g : ℤ} {m m' : Lent} {k k' : List ℕ} {c : State} (o : StepResult) (fit : SFits w32 g)
+module _ {l r : List ℕ} {g : ℤ} {m m' : Lent} {k k' : List ℕ} {c : State} (o : Result StepResult Refusal) (fit : SFits w32 g)
     (public : PublicResolve l r (to_z w32 (of_z w32 g)) m m' k k' c (resolved o m' k')) (same : length k' ≡ length k) where
   here : PublicResolve l r g m m' k k' c (resolved o m' k')
   here = subst (λ (x : ℤ). PublicResolve l r x m m' k k' c (resolved o m' k')) (to_z-of_z w32 g fit) public
@@ -141,28 +150,29 @@ module _ {l r : List ℕ} {g : ℤ} {m m' : Lent} {k k' : List ℕ} {c : State} 
   called : PublicList (list_call k (resolve_arguments l r g) (resolve l r g) m c) m m' k k' c (resolved o m' k')
   called = here.is
 
-  stands : Stands o k'
-  stands = record {
-    split = λ d n h j e. split-stands (resolve-tells l r g) (λ x. x) g fit (λ s f. both_right (is_list s l && is_list s r) _ f) (λ s s' x q. (resolve-few g l r s).given s' x q) m m' k k' c same d n h j (sym called.store.says ∙ ap (λ (x : StepResult). resolved x m' k') e);
+  stands : (x : StepResult) → o ≡ Ok x → Stands x k'
+  stands x i = record {
+    split = λ d n h j e. split-stands (resolve-tells l r g) (λ y. y) g fit (λ s f. both_right (is_list s l && is_list s r) _ f) (λ s s' y q. (resolve-few g l r s).given s' y q) m m' k k' c same d n h j (sym called.store.says ∙ ap (λ (y : Result StepResult Refusal). resolved y m' k') (i ∙ ap Ok e));
   }
 
-  shows : Shows answer_room answer_words (answer_read k') m' (resolved o m' k') (answer_telling o)
-  shows = answer-shows o m' k' stands
+  shows : Shows answer_room answer_words (answer_read k') m' (resolved o m' k') (resolve_telling o)
+  shows = shows_or answer_room answer_words (answer_read k') m' (λ y. resolved y m' k') answer_telling (λ e. refl) o (λ x i. answer-shows x m' k' (stands x i))
 
-  pub resolve_tellable : NarrowAnswer o
-  resolve_tellable = answer_narrow o (list_tellable (resolve-tells l r g) called answer_words (answer_read k') (answer_telling o) shows) stands
+  pub resolve_tellable : (x : StepResult) → o ≡ Ok x → NarrowAnswer x
+  resolve_tellable x i = answer_narrow x
+      (λ d v e. list_tellable (resolve-tells l r g) called answer_words (answer_read k') (resolve_telling o) shows d v (ap resolve_telling i ∙ e)) (stands x i)
 
-  pub resolve_exported : {w w' a a' : List ℕ} {n : ℕ} → roomy state_room w a ≡ true → c ≡ state_of w → ToldBy written answer_telling w w' a a' o n
+  pub resolve_exported : {w w' a a' : List ℕ} {n : ℕ} → roomy state_room w a ≡ true → c ≡ state_of w → ToldBy written resolve_telling w w' a a' o n
       → ExportedResolve l r g m m' k k' w w' a a' n
   resolve_exported {w} {w'} {a} {a'} {n} room e u =
-      let x = list_exported (resolve-tells l r g) called answer_words (answer_read k') (answer_telling o) shows room e u.is in
+      let x = list_exported (resolve-tells l r g) called answer_words (answer_read k') (resolve_telling o) shows room e u.is in
       let q : told n w' m' (answer_read k' a') ≡ resolved o m' k' =
       x.is.is.public.says ∙ ap (λ (b : Bool). over b (list_call k (resolve_arguments l r g) (resolve l r g) m (state_of w))) room
       ∙ ap (λ (d : State). list_call k (resolve_arguments l r g) (resolve l r g) m d) (sym e) ∙ sym called.store.says in
       record {
         is = x;
-        worth = list-worth (resolve-tells l r g) called answer_words (answer_read k') (answer_telling o) shows room e u.is (λ d s' y. Sound (store_of m d) s' l r y) here.worth;
-        once = list-once (resolve-tells l r g) called answer_words (answer_read k') (answer_telling o) shows room e u.is here.once;
+        worth = list-worth (resolve-tells l r g) called answer_words (answer_read k') (resolve_telling o) shows room e u.is (λ d s' y. Sound (store_of m d) s' l r y) here.worth;
+        once = list-once (resolve-tells l r g) called answer_words (answer_read k') (resolve_telling o) shows room e u.is here.once;
         grows = λ z y. grown z y;
         decides = λ v f i. subst (λ (d : State). Decides (store_of m d) l r (told n w' m' (answer_read k' a'))) e
             (subst (Decides (store_of m c) l r) (sym q) (here.decides v (subst (λ (d : State). Repeated (store_of m d) v l r) (sym e) f) (λ j z. i j (q ∙ z))));
@@ -173,5 +183,5 @@ module _ {l r : List ℕ} {g : ℤ} {m m' : Lent} {k k' : List ℕ} {c : State} 
 
       grown : n ≡ 0 → get_or a' 0 0 ≡ 4 → get_or w' 0 0 ≡ get_or a' 3 0 + get_or w 0 0
       grown z y =
-          let f = list-worth (resolve-tells l r g) called answer_words (answer_read k') (answer_telling o) shows room e u.is Grown (λ s' x q atoms h i p. here.grows s' atoms h i (q ∙ ap (ok s') p)) z in
+          let f = list-worth (resolve-tells l r g) called answer_words (answer_read k') (resolve_telling o) shows room e u.is Grown (λ s' x q atoms h i p. here.grows s' atoms h i (q ∙ ap (ok s') p)) z in
           sym (counted m' w') ∙ f _ _ _ (ap (λ (j : ℕ). answer_by j k' a') y) ∙ ap (λ (j : ℕ). get_or a' 3 0 + j) (counted m w)

@@ -7,7 +7,6 @@ mod FormExports
 mod AnswerExports
 mod CountExports
 mod EqualExports
-mod Complements
 mod StepExports
 mod Standings
 mod PartExports

@@ -1,4 +1,5 @@
 -- Joining, setting a mark and going back, told in words.
+use Rattle.std.specs.Prelude.{Result, Ok, Err}
 use mathlib.Core.Path.{◌≡◌, refl, sym, ap, subst, ◌∙◌}
 use mathlib.Core.Bool.{Bool, true, false, ◌&&◌}
 use mathlib.Core.List.{List, [], ◌∷◌}
@@ -15,15 +16,17 @@ use Rattle.records.specs.Store.{Term, Store, within, same_class}
 use Rattle.records.specs.View.{Lent, store_of, sizes}
 use Rattle.records.proofs.Lists.{both_left, both_right, decide, table-length}
 use Rattle.classes.specs.declared.Standing.{Standing}
-use Rattle.classes.specs.declared.Answer.{Answer}
-use Rattle.classes.specs.declared.Answer.TheVariants.{Given, Refused}
+use Rattle.records.specs.declared.refusal.Refusal.{Refusal}
+use Rattle.records.specs.declared.refusal.Refusal.TheVariants as refusal
+use Rattle.records.specs.Refusal.{number}
+use Rattle.records.proofs.Public.{numbered}
 use Rattle.classes.specs.Joins.{Trace, trace_of}
 use Rattle.classes.specs.Marks.{Trail, mark_limit, join_limit, trace_at, trail_of, trail_sizes, table_at, audit_marks}
 use Rattle.classes.specs.Calls.{Outcome, gives, refuses, join_arguments, recorded, join_terms, set_mark, joins_at, gone, go_back, unless, tracked, answered, Tracks, PublicJoin}
 use Rattle.capi.specs.Interface.{state_of, Beyond, answer_room, roomy}
-use Rattle.capi.specs.Marks.{standing_of, marked_room, Inside, Promise, ExportedMarks}
-use Rattle.capi.specs.Working.Leaves.{put_first, answer_with, ToldWords, ToldBy}
-use Rattle.capi.specs.Working.Standings.{standing_in, NarrowStanding, NarrowGiven, given_telling, number_telling, standing_telling}
+use Rattle.capi.specs.Marks.{standing_of, marked_room, Inside, read_as, Promise, ExportedMarks}
+use Rattle.capi.specs.Working.Leaves.{put_first, Telling, answer_with, ToldWords, ToldBy}
+use Rattle.capi.specs.Working.Standings.{standing_in, NarrowStanding, NarrowGiven, given_telling, number_telling}
 use Rattle.capi.proofs.Words.{beyond_same, beyond_words, roomy-state, roomy-answer}
 
 -- THE COUNTS OF MARKS AND JOINS
@@ -65,10 +68,11 @@ not-both : {X : Type 0} {b : Bool} → b ≡ true → b ≡ false → X
 not-both p q = let y : ◌≡◌ {A = ℕ} 0 1 = cc in absurd (omega arith)
 
 -- a state or an answer too short
-pub marks-short : {P : Promise} {i j : ℕ} {fit : Bool} (m : Lent) (l w a : List ℕ) (n : ℕ) → fit ≡ false → ExportedMarks P i j fit m m l l w w a a n 1
-marks-short {i = i} {j = j} m l w a n e = record {
+pub marks-short : {P : Promise} {i j : ℕ} {fit : Bool} (m : Lent) (l w a : List ℕ) (n : ℕ) → fit ≡ false → {k : ℕ} → k ≡ 1 → ExportedMarks P i j fit m m l l w w a a n k
+marks-short {i = i} {j = j} m l w a n e q = record {
   is = λ f. not-both f e;
-  short = λ f. refl;
+  short = λ f. q;
+  known = omega arith;
   state = inside-same i j w;
   answer = beyond_same 1 a;
   store_idle = λ f. refl;
@@ -77,22 +81,52 @@ marks-short {i = i} {j = j} m l w a n e = record {
   answer_idle = λ f. refl;
 }
 
+-- a refusal's number is read off as the refusal
+read-refused : (e : Refusal) (n : ℕ) (w : List ℕ) → read_as (number e) n w ≡ Err e
+read-refused refusal.Sizes n w = refl
+read-refused refusal.Records n w = refl
+read-refused refusal.Classes n w = refl
+read-refused refusal.Congruences n w = refl
+read-refused refusal.Argument n w = refl
+read-refused refusal.List n w = refl
+read-refused refusal.Reasons n w = refl
+read-refused refusal.Room n w = refl
+read-refused refusal.Names n w = refl
+read-refused refusal.Mark n w = refl
+read-refused refusal.Form n w = refl
+read-refused refusal.Index n w = refl
+
+-- no refusal has a higher number
+numbers_end : (e : Refusal) → number e ≤ 12
+numbers_end refusal.Sizes = omega arith
+numbers_end refusal.Records = omega arith
+numbers_end refusal.Classes = omega arith
+numbers_end refusal.Congruences = omega arith
+numbers_end refusal.Argument = omega arith
+numbers_end refusal.List = omega arith
+numbers_end refusal.Reasons = omega arith
+numbers_end refusal.Room = omega arith
+numbers_end refusal.Names = omega arith
+numbers_end refusal.Mark = omega arith
+numbers_end refusal.Form = omega arith
+numbers_end refusal.Index = omega arith
+
 -- what of a call its telling rests on
-record Tellable (P : Promise) (i j : ℕ) (m m' : Lent) (l l' w : List ℕ) (r : Answer) : Type 0 where
+record Tellable (P : Promise) (i j : ℕ) (m m' : Lent) (l l' w : List ℕ) (r : Result (ℕ × Standing) Refusal) : Type 0 where
   promise : P m m' l l' (state_of w) (standing_of w) r
-  stops : r ≡ Refused 0 → ⊥
-  idle : (k : ℕ) → r ≡ Refused k → (m' ≡ m) × (l' ≡ l)
-  inside : (x : ℕ) (e : Standing) → r ≡ Given x e → Inside i j w (standing_in e w)
+  idle : (k : Refusal) → r ≡ Err k → (m' ≡ m) × (l' ≡ l)
+  inside : (x : ℕ) (e : Standing) → r ≡ Ok (x, e) → Inside i j w (standing_in e w)
 
 module _ {P : Promise} {i j : ℕ} {fit : Bool} {m m' : Lent} {l l' w : List ℕ} (f : fit ≡ true) (h : marked_room ≤ length w) where
   -- n is the number given, and its words are one at most
-  told-state : (words : ℕ → List ℕ) (r : Answer) → Tellable P i j m m' l l' w r → {w' a a' : List ℕ} {k : ℕ} → ToldWords standing_in w w' a a' (given_telling words r) k → (n : ℕ)
-      → ((x : ℕ) (e : Standing) → r ≡ Given x e → (n ≡ x) × Beyond 1 a (put_first (words x) a)) → ExportedMarks P i j fit m m' l l' w w' a a' n k
-  told-state words (Given x e) t {w'} {a} {a'} u n g =
-      let q : Given n (standing_of (standing_in e w)) ≡ Given x e = ap (λ (y : ℕ). Given y (standing_of (standing_in e w))) (g x e refl).0 ∙ ap (Given x) (back e w h) in
+  told-state : (words : ℕ → List ℕ) (r : Result (ℕ × Standing) Refusal) → Tellable P i j m m' l l' w r → {w' a a' : List ℕ} {k : ℕ} → ToldWords standing_in w w' a a' (given_telling words r) k → (n : ℕ)
+      → ((x : ℕ) (e : Standing) → r ≡ Ok (x, e) → (n ≡ x) × Beyond 1 a (put_first (words x) a)) → ExportedMarks P i j fit m m' l l' w w' a a' n k
+  told-state words (Ok (x, e)) t {w'} {a} {a'} u n g =
+      let q : ◌≡◌ {A = Result (ℕ × Standing) Refusal} (Ok (n, standing_of (standing_in e w))) (Ok (x, e)) = ap (λ (y : ℕ). Ok (y, standing_of (standing_in e w))) (g x e refl).0 ∙ ap (λ (y : Standing). Ok (x, y)) (back e w h) in
       rw (u.code, u.state, u.answer) (record {
-        is = λ y. subst (λ (r : Answer). P m m' l l' (state_of w) (standing_of w) r) (sym q) t.promise;
+        is = λ y. subst (λ (r : Result (ℕ × Standing) Refusal). P m m' l l' (state_of w) (standing_of w) r) (sym q) t.promise;
         short = λ y. not-both f y;
+        known = omega arith;
         state = t.inside x e refl;
         answer = (g x e refl).1;
         store_idle = λ y. absurd (y refl);
@@ -100,23 +134,23 @@ module _ {P : Promise} {i j : ℕ} {fit : Bool} {m m' : Lent} {l l' w : List ℕ
         state_idle = λ y. absurd (y refl);
         answer_idle = λ y. absurd (y refl);
       })
-  told-state words (Refused zero) t u n g = absurd (t.stops refl)
-  told-state words (Refused (suc k)) t {w'} {a} u n g =
+  told-state words (Err e) t {w'} {a} u n g =
       rw (u.code, u.state, u.answer) (record {
-        is = λ y. t.promise;
+        is = λ y. subst (λ (r : Result (ℕ × Standing) Refusal). P m m' l l' (state_of w) (standing_of w) r) (sym (read-refused e n w)) t.promise;
         short = λ y. not-both f y;
+        known = numbers_end e;
         state = inside-same i j w;
         answer = beyond_same 1 a;
-        store_idle = λ y. (t.idle (suc k) refl).0;
-        marks_idle = λ y. (t.idle (suc k) refl).1;
+        store_idle = λ y. (t.idle e refl).0;
+        marks_idle = λ y. (t.idle e refl).1;
         state_idle = λ y. refl;
         answer_idle = λ y. refl;
       })
 
-  told-number : {a : List ℕ} → answer_room ≤ length a → (r : Answer) → Tellable P i j m m' l l' w r → {w' a' : List ℕ} {k : ℕ} → ToldBy standing_in number_telling w w' a a' r k → ExportedMarks P i j fit m m' l l' w w' a a' (get_or a' 0 0) k
+  told-number : {a : List ℕ} → answer_room ≤ length a → (r : Result (ℕ × Standing) Refusal) → Tellable P i j m m' l l' w r → {w' a' : List ℕ} {k : ℕ} → ToldBy standing_in number_telling w w' a a' r k → ExportedMarks P i j fit m m' l l' w w' a a' (get_or a' 0 0) k
   told-number {a} o r t {w'} {a'} u =
       told-state (λ x. x ∷ []) r t u.is (get_or a' 0 0)
-      (λ x e q. (ap (λ (v : List ℕ). get_or v 0 0) (u.is.answer ∙ ap (λ (y : Answer). answer_with (number_telling y) a) q), beyond_words (x ∷ []) a (omega arith)))
+      (λ x e q. (ap (λ (v : List ℕ). get_or v 0 0) (u.is.answer ∙ ap (λ (y : Result (ℕ × Standing) Refusal). answer_with (number_telling y) a) q), beyond_words (x ∷ []) a (omega arith)))
 
 -- WHAT THE CALLS GIVE
 
@@ -129,20 +163,9 @@ module _ (work : Store → Trail → Outcome) (m : Lent) (l : List ℕ) (c : Sta
       go zero e = e
       go (suc k) e = let z : ◌≡◌ {A = ℕ} 0 1 = cc in absurd (omega arith)
 
-  tracked-stops : (work (store_of m c) (trail_of l d) ≡ refuses 0 → ⊥) → tracked work m l c d ≡ refuses 0 → ⊥
-  unfolding tracked
-  tracked-stops f e = go (audit_marks m l c d) e
-    where
-      go : (k : ℕ) → unless k (work (store_of m c) (trail_of l d)) ≡ refuses 0 → ⊥
-      go zero e = f e
-      go (suc k) e = let z : suc k ≡ 0 = cc in absurd (omega arith)
-
-module _ {work : Store → Trail → Outcome} {m m' : Lent} {l l' : List ℕ} {c : State} {d : Standing} {r : Answer} (t : Tracks work m m' l l' c d r) where
-  given-says : (x : ℕ) (e : Standing) → r ≡ Given x e → work (store_of m c) (trail_of l d) ≡ gives (store_of m' c) (trail_of l' e) x
-  given-says x e q = tracked-gives work m l c d (sym t.says ∙ ap (λ (y : Answer). answered y m' l' c) q)
-
-  no_stop : (work (store_of m c) (trail_of l d) ≡ refuses 0 → ⊥) → r ≡ Refused 0 → ⊥
-  no_stop f q = tracked-stops work m l c d f (sym t.says ∙ ap (λ (y : Answer). answered y m' l' c) q)
+module _ {work : Store → Trail → Outcome} {m m' : Lent} {l l' : List ℕ} {c : State} {d : Standing} {r : Result (ℕ × Standing) Refusal} (t : Tracks work m m' l l' c d r) where
+  given-says : (x : ℕ) (e : Standing) → r ≡ Ok (x, e) → work (store_of m c) (trail_of l d) ≡ gives (store_of m' c) (trail_of l' e) x
+  given-says x e q = tracked-gives work m l c d (sym t.says ∙ ap (λ (y : Result (ℕ × Standing) Refusal). answered y m' l' c) q)
 
 -- a store and marks that pass the audit have counts within their limits
 standing_narrow : (m : Lent) (l : List ℕ) (c : State) (e : Standing) → audit_marks m l c e ≡ 0 → NarrowStanding e
@@ -155,7 +178,7 @@ standing_narrow m l c e h = decide (sizes m c && trail_sizes l e)
     record { marks = omega arith; joins = omega arith })
     (λ p. let z = rw p at h in absurd (omega arith))
 
-pub tracks_narrow : {work : Store → Trail → Outcome} {m m' : Lent} {l l' : List ℕ} {c : State} {d : Standing} {r : Answer} → Tracks work m m' l l' c d r → NarrowGiven r
+pub tracks_narrow : {work : Store → Trail → Outcome} {m m' : Lent} {l l' : List ℕ} {c : State} {d : Standing} {r : Result (ℕ × Standing) Refusal} → Tracks work m m' l l' c d r → NarrowGiven r
 tracks_narrow {m' = m'} {l' = l'} {c = c} t = record { counts = λ n e q. standing_narrow m' l' c e (t.audited n e q) }
 
 -- joining leaves the marks, and setting a mark the joins
@@ -171,14 +194,6 @@ module _ (a b k v : ℕ) (s : Store) (x : Trail) where
       (λ q. let h = rw (p, q) at e in let z : x' ≡ recorded (trace_of s.terms a) x = cc in ap (λ (y : Trail). y.marks) z ∙ recorded-marks (trace_of s.terms a) x))
       (λ p. let h = rw p at e in let z : ◌≡◌ {A = ℕ} 0 1 = cc in absurd (omega arith))
 
-  join-stops : join_terms a b k v s x ≡ refuses 0 → ⊥
-  unfolding join_terms
-  join-stops e = decide (join_arguments a b k v s)
-      (λ p. decide (same_class s a b)
-      (λ q. let h = rw (p, q) at e in let z : ◌≡◌ {A = ℕ} 0 1 = cc in absurd (omega arith))
-      (λ q. let h = rw (p, q) at e in let z : ◌≡◌ {A = ℕ} 0 1 = cc in absurd (omega arith)))
-      (λ p. let h = rw p at e in let z : ◌≡◌ {A = ℕ} 5 0 = cc in absurd (omega arith))
-
 module _ (s : Store) (x : Trail) where
   mark_joins : (s' : Store) (x' : Trail) (n : ℕ) → set_mark s x ≡ gives s' x' n → x'.joins ≡ x.joins
   unfolding set_mark
@@ -186,20 +201,10 @@ module _ (s : Store) (x : Trail) where
       (λ p. let h = rw p at e in let z : x' ≡ record { marks = one_more x.marks (length x.joins); joins = x.joins } = cc in ap (λ (y : Trail). y.joins) z)
       (λ p. let h = rw p at e in let z : ◌≡◌ {A = ℕ} 0 1 = cc in absurd (omega arith))
 
-  mark_stops : set_mark s x ≡ refuses 0 → ⊥
-  unfolding set_mark
-  mark_stops e = decide (ltb (length x.marks) mark_limit)
-      (λ p. let h = rw p at e in let z : ◌≡◌ {A = ℕ} 0 1 = cc in absurd (omega arith))
-      (λ p. let h = rw p at e in let z : ◌≡◌ {A = ℕ} 10 0 = cc in absurd (omega arith))
-
   -- going back gives the number of its mark
   gone-number : (i : ℕ) (o : Option (List Term)) (s' : Store) (x' : Trail) (n : ℕ) → gone i s x o ≡ gives s' x' n → i ≡ n
   gone-number i none s' x' n e = let z : ◌≡◌ {A = ℕ} 0 1 = cc in absurd (omega arith)
   gone-number i (some ts) s' x' n e = let z : i ≡ n = cc in z
-
-  gone-stops : (i : ℕ) (o : Option (List Term)) → gone i s x o ≡ refuses 0 → ⊥
-  gone-stops i none e = let z : ◌≡◌ {A = ℕ} 3 0 = cc in absurd (omega arith)
-  gone-stops i (some ts) e = let z : ◌≡◌ {A = ℕ} 0 1 = cc in absurd (omega arith)
 
   back-number : (i : ℕ) (s' : Store) (x' : Trail) (n : ℕ) → go_back i s x ≡ gives s' x' n → i ≡ n
   unfolding go_back
@@ -207,27 +212,25 @@ module _ (s : Store) (x : Trail) where
       (λ p. let h = rw p at e in gone-number i (table_at (joins_at i x) x s.terms) s' x' n h)
       (λ p. let h = rw p at e in let z : ◌≡◌ {A = ℕ} 0 1 = cc in absurd (omega arith))
 
-  back-stops : (i : ℕ) → go_back i s x ≡ refuses 0 → ⊥
-  unfolding go_back
-  back-stops i e = decide (within (length x.marks) i)
-      (λ p. let h = rw p at e in gone-stops i (table_at (joins_at i x) x s.terms) h)
-      (λ p. let h = rw p at e in let z : ◌≡◌ {A = ℕ} 10 0 = cc in absurd (omega arith))
-
 -- lists of equal records are of one length
 tables-long : {A : Type 0} (f g : ℕ → A) (i j : ℕ) → table f i ≡ table g j → i ≡ j
 tables-long f g i j p = sym (table-length f i) ∙ ap length p ∙ table-length g j
 
 -- THE EXPORTED CALLS
 
-pub back-short : (m : Lent) (l w : List ℕ) (mark : ℕ) → length w < marked_room → ExportedMarks (Tracks (go_back mark)) 6 8 (leb marked_room (length w)) m m l l w w [] [] mark 1
-back-short m l w mark h = marks-short m l w [] mark (lt-leb marked_room (length w) h)
+-- going back tells no number
+abbrev pub standing_telling : Result (ℕ × Standing) Refusal → Telling Standing
+standing_telling r = given_telling (λ n. []) r
+
+pub back-short : (m : Lent) (l w : List ℕ) (mark : ℕ) → length w < marked_room → {k : ℕ} → k ≡ 1 → ExportedMarks (Tracks (go_back mark)) 6 8 (leb marked_room (length w)) m m l l w w [] [] mark k
+back-short m l w mark h q = marks-short m l w [] mark (lt-leb marked_room (length w) h) q
 
 -- the promise of the counts that the words have
-module _ (P : Promise) (m m' : Lent) (l l' w : List ℕ) (r : Answer) where
+module _ (P : Promise) (m m' : Lent) (l l' w : List ℕ) (r : Result (ℕ × Standing) Refusal) where
   moved : {c : State} {d : Standing} → c ≡ state_of w → d ≡ standing_of w → P m m' l l' c d r → P m m' l l' (state_of w) (standing_of w) r
   moved {c} i j p = subst (λ (y : State). P m m' l l' y (standing_of w) r) i (subst (λ (y : Standing). P m m' l l' c y r) j p)
 
-module _ {m m' : Lent} {l l' w w' : List ℕ} {c : State} {d : Standing} {r : Answer} {k : ℕ} (counted : c ≡ state_of w) (standing : d ≡ standing_of w) where
+module _ {m m' : Lent} {l l' w w' : List ℕ} {c : State} {d : Standing} {r : Result (ℕ × Standing) Refusal} {k : ℕ} (counted : c ≡ state_of w) (standing : d ≡ standing_of w) where
   pub join_exported : {a b kind number : ℕ} {v v' : List ℕ} → PublicJoin a b kind number m m' l l' c d r → roomy marked_room w v ≡ true → ToldBy standing_in number_telling w w' v v' r k
       → ExportedMarks (PublicJoin a b kind number) 7 8 (roomy marked_room w v) m m' l l' w w' v v' (get_or v' 0 0) k
   join_exported {a} {b} {kind} {number} {v} called room u =
@@ -236,7 +239,6 @@ module _ {m m' : Lent} {l l' w w' : List ℕ} {c : State} {d : Standing} {r : An
       told-number {P = PublicJoin a b kind number} {i = 7} {j = 8} room h (roomy-answer marked_room w v room) r
       (record {
         promise = p;
-        stops = no_stop p.tracks (join-stops a b kind number (store_of m (state_of w)) (trail_of l (standing_of w)));
         idle = p.tracks.idle;
         inside = λ x e q. inside-joins e w (tables-long (λ (y : ℕ). get_or l' y 0) (λ (y : ℕ). get_or l y 0) e.marks (get_or w 6 0)
             (join-marks a b kind number (store_of m (state_of w)) (trail_of l (standing_of w)) (store_of m' (state_of w)) (trail_of l' e) x (given-says p.tracks x e q)));
@@ -250,7 +252,6 @@ module _ {m m' : Lent} {l l' w w' : List ℕ} {c : State} {d : Standing} {r : An
       told-number {P = Tracks set_mark} {i = 6} {j = 7} room h (roomy-answer marked_room w v room) r
       (record {
         promise = p;
-        stops = no_stop p (mark_stops (store_of m (state_of w)) (trail_of l (standing_of w)));
         idle = p.idle;
         inside = λ x e q. inside-marks e w (tables-long (trace_at l') (trace_at l) e.joins (get_or w 7 0)
             (mark_joins (store_of m (state_of w)) (trail_of l (standing_of w)) (store_of m' (state_of w)) (trail_of l' e) x (given-says p x e q)));
@@ -263,7 +264,6 @@ module _ {m m' : Lent} {l l' w w' : List ℕ} {c : State} {d : Standing} {r : An
       told-state {P = Tracks (go_back mark)} {i = 6} {j = 8} (le-leb marked_room (length w) h) h (λ x. []) r
       (record {
         promise = p;
-        stops = no_stop p (back-stops (store_of m (state_of w)) (trail_of l (standing_of w)) mark);
         idle = p.idle;
         inside = λ x e q. inside_both e w;
       }) u.is mark (λ x e q. (back-number (store_of m (state_of w)) (trail_of l (standing_of w)) mark (store_of m' (state_of w)) (trail_of l' e) x (given-says p x e q), beyond_same 1 []))

@@ -1,6 +1,6 @@
 -- The state's six words read and written, and the answer's.
 use mathlib.Core.Path.{◌≡◌, refl, sym, ap, ◌∙◌}
-use mathlib.Core.Bool.{true, false}
+use mathlib.Core.Bool.{Bool, true, false}
 use mathlib.Core.List.{List, [], ◌∷◌, ◌++◌}
 use Prim.Native.Nat.{ℕ, suc, ◌+◌, ◌≤◌, ◌<◌}
 use native.Mathlib.Omega.{arith}
@@ -8,12 +8,16 @@ use native.Mathlib.Numerals.{add-one}
 use lib.ListN.{length, get_or, take, drop, set, length-append, length-drop, length-set}
 use lib.Seq.{drop-append_seam, sets-eq, set-get_or, drop-cons, set_at, append_snoc, take-suc, take-length, length-take-le}
 use lib.Dec.{leb}
+use mir.Val.{bool_byte}
 use borrow.Author.Tests.{leb-true, lt-leb, le-leb}
 use Rattle.records.specs.declared.State.{State}
+use Rattle.records.specs.declared.refusal.Refusal.{Refusal}
+use Rattle.records.specs.Refusal.{number}
 use Rattle.records.specs.View.{Lent, counts}
 use Rattle.records.specs.Rules.{audit}
 use Rattle.records.proofs.Lists.{both_left, both_right, left_false, and-next}
 use Rattle.capi.specs.Interface.{state_of, Beyond, state_room, answer_room, roomy, audited}
+use Rattle.capi.specs.Equations.{flag}
 use Rattle.capi.specs.Working.Leaves.{put_first, written, Telling, tells, refuses, ToldWords, ToldBy}
 
 pub beyond_same : (n : ℕ) (w : List ℕ) → Beyond n w w
@@ -51,9 +55,9 @@ module _ (n : ℕ) (w a : List ℕ) where
   unfolding roomy
   roomy-answer e = leb-true answer_room (length a) (both_right (leb n (length w)) _ e)
 
-  pub unroomy : length w < n → false ≡ roomy n w a
+  pub unroomy : length w < n → leb n (length w) ≡ roomy n w a
   unfolding roomy
-  unroomy h = sym (left_false _ _ (lt-leb n (length w) h))
+  unroomy h = let e = lt-leb n (length w) h in e ∙ sym (left_false _ _ e)
 
   pub roomy-is : n ≤ length w → leb answer_room (length a) ≡ roomy n w a
   unfolding roomy
@@ -71,32 +75,11 @@ pub audit_stated : (w : List ℕ) (m : Lent) (c : State) (k : ℕ) → state_roo
 unfolding audited
 audit_stated w m c k h e v = rw (le-leb state_room (length w) h) (v ∙ ap (audit m) e)
 
--- WORDS PUT FIRST
-
--- the first i of v stand in a'
-pub record Putting (a a' v : List ℕ) (i : ℕ) : Type 0 where
-  pub long : length a' ≡ length a
-  pub few : i ≤ length v
-  pub is : a' ≡ take i v ++ drop i a
-
-pub put-none : (a v : List ℕ) → Putting a a v 0
-put-none a v = record { long = refl; few = omega arith; is = refl }
-
-pub put_one : (a a' v : List ℕ) (i : ℕ) → Putting a a' v i → i < length v → length v ≤ length a → Putting a (set a' i (get_or v i 0)) v (i + 1)
-put_one a a' v i p h k = record {
-  long = length-set a' i (get_or v i 0) ∙ p.long;
-  few = omega arith;
-  is =
-      rw (add-one i)
-      (ap (λ (l : List ℕ). set l i (get_or v i 0)) (p.is ∙ ap (λ (l : List ℕ). take i v ++ l) (drop-cons a i 0 (omega arith)))
-      ∙ set_at (take i v) (get_or a i 0) (drop (suc i) a) (get_or v i 0) i (length-take-le i v p.few) ∙ sym (append_snoc (take i v) (get_or v i 0) (drop (suc i) a))
-      ∙ ap (λ (l : List ℕ). l ++ drop (suc i) a) (sym (take-suc v i 0 h)));
-}
-
-pub put_all : (a a' v : List ℕ) (i : ℕ) → Putting a a' v i → length v ≤ i → a' ≡ put_first v a
-put_all a a' v i p h = p.is ∙ (let q = p.few in let e : i ≡ length v = omega arith in rw e (ap (λ (l : List ℕ). l ++ drop (length v) a) (take-length v)))
-
 -- TELLING
+
+pub flag_from : (b : Bool) → bool_byte b ≡ flag b
+flag_from true = refl
+flag_from false = refl
 
 module _ {S R : Type 0} {put : S → List ℕ → List ℕ} {f : R → Telling S} {r : R} where
   pub told-by : {w w' a a' : List ℕ} {T : Telling S} {k : ℕ} → f r ≡ T → ToldWords put w w' a a' T k → ToldBy put f w w' a a' r k
@@ -106,5 +89,5 @@ module _ {S R : Type 0} {put : S → List ℕ → List ℕ} {f : R → Telling S
   pub told_as : {w w' a a' : List ℕ} {c : S} {v v' : List ℕ} {k : ℕ} → f r ≡ tells c v → ToldWords put w w' a a' (tells c v') k → v' ≡ v → ToldBy put f w w' a a' r k
   told_as {c = c} e t q = told-by (e ∙ ap (tells c) (sym q)) t
 
-  pub told-refuses : {w a : List ℕ} {k : ℕ} → f r ≡ refuses k → ToldBy put f w w a a r k
-  told-refuses e = record { is = rw e (record { code = refl; state = refl; answer = refl }) }
+  pub told-refuses : {w a : List ℕ} {j : Refusal} {k : ℕ} → f r ≡ refuses j → k ≡ number j → ToldBy put f w w a a r k
+  told-refuses e q = record { is = rw e (record { code = q; state = refl; answer = refl }) }

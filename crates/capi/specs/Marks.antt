@@ -1,11 +1,11 @@
 -- What the exported calls of joining, setting a mark and going back promise (document 02, Note 1).
-use Rattle.std.specs.Prelude.{◌≡◌, Bool, true, false, List, [], ℕ, zero, suc, length, get_or, take, drop, leb}
+use Rattle.std.specs.Prelude.{◌≡◌, Bool, true, false, List, [], ℕ, zero, suc, length, get_or, take, drop, leb, ◌∷◌, ◌-◌, ◌≤◌, Result, Ok, Err}
 use denote.Triple.Both.{Both}
 use Rattle.records.specs.declared.State.{State}
 use Rattle.records.specs.View.{Lent, Slice}
 use Rattle.classes.specs.declared.Standing.{Standing}
-use Rattle.classes.specs.declared.Answer.{Answer}
-use Rattle.classes.specs.declared.Answer.TheVariants.{Given, Refused}
+use Rattle.records.specs.declared.refusal.Refusal.{Refusal}
+use Rattle.records.specs.declared.refusal.Refusal.TheVariants as refusal
 use Rattle.classes.specs.Calls.{go_back, Tracks}
 use Rattle.capi.specs.Interface.{state_of, Beyond, roomy}
 
@@ -23,21 +23,29 @@ pub record Inside (i j : ℕ) (w v : List ℕ) : Type 0 where
   pub first : take i v ≡ take i w
   pub rest : drop j v ≡ drop j w
 
--- what the caller reads off the result k: for 0 the number n, and the counts in the state's words; else the refusal's number
-abbrev pub read_as : ℕ → ℕ → List ℕ → Answer
-read_as zero n w = Given n (standing_of w)
-read_as (suc k) n w = Refused (suc k)
+-- the refusal of a number from 1 to 12
+abbrev pub refusal_of : ℕ → Refusal
+refusal_of k =
+    get_or
+    (refusal.Sizes ∷ refusal.Records ∷ refusal.Classes ∷ refusal.Congruences ∷ refusal.Argument ∷ refusal.List ∷ refusal.Reasons ∷ refusal.Room ∷ refusal.Names ∷ refusal.Mark ∷ refusal.Form ∷ refusal.Index ∷ [])
+    (k - 1) refusal.Sizes
+
+-- what the caller reads off the result k: for 0 the number n, and the counts in the state's words; else the refusal of that number
+abbrev pub read_as : ℕ → ℕ → List ℕ → Result (ℕ × Standing) Refusal
+read_as zero n w = Ok (n, standing_of w)
+read_as (suc k) n w = Err (refusal_of (suc k))
 
 -- What a call on the words lent for marks promises
 abbrev pub Promise : Type 1
-Promise = Lent → Lent → List ℕ → List ℕ → State → Standing → Answer → Type 0
+Promise = Lent → Lent → List ℕ → List ℕ → State → Standing → Result (ℕ × Standing) Refusal → Type 0
 
--- Where state and answer have their eight words (`fit`) the call's promise P holds of what is read off, and the refusal is 1 where they
--- have not. On success the state is written from word i up to word j and the answer in word 0, no other word of either; 'Refusals added
--- from here on write nothing': after a refusal every slice is as it was.
+-- The result is 0 or a refusal's number. Where state and answer have their eight words (`fit`) the call's promise P holds of what is read
+-- off, and the refusal is 1 where they have not. On success the state is written from word i up to word j and the answer in word 0, no other
+-- word of either; 'Refusals added from here on write nothing': after a refusal every slice is as it was.
 pub record ExportedMarks (P : Promise) (i j : ℕ) (fit : Bool) (m m' : Lent) (l l' w w' a a' : List ℕ) (n k : ℕ) : Type 0 where
   pub is : fit ≡ true → P m m' l l' (state_of w) (standing_of w) (read_as k n w')
   pub short : fit ≡ false → k ≡ 1
+  pub known : k ≤ 12
   pub state : Inside i j w w'
   pub answer : Beyond 1 a a'
   pub store_idle : (k ≡ 0 → ⊥) → m' ≡ m

@@ -1,5 +1,3 @@
 -- Working definitions: what the contracts of working functions cite. No definition that a public contract cites is built on one of them.
 pub mod Leaves
 pub mod Standings
-pub mod Parting
-pub mod Measuring

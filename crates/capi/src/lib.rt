@@ -11,13 +11,11 @@ ghost use Rattle.capi.specs.Forms.{ExportedForm, ExportedDeepForm};
 ghost use Rattle.capi.specs.Equations.{ExportedResolve, ExportedEqual, ExportedEqualExplain};
 ghost use Rattle.capi.specs.Steps.{ExportedStep};
 
-use engine::Found;
-use records::{build, make};
+use equation::Outcome;
+use records::{Refusal, build, make};
 use telling::{
-    STATE_ROOM, flag_of, is_roomy, state_of, tell, tell_answer, tell_counts, tell_deep_form,
-    tell_form, tell_outcome, tell_still,
+    STATE_ROOM, is_roomy, state_of, tell, tell_answer, tell_counts, tell_still, tell_words,
 };
-use wordeq::Equality;
 
 pub mod lengths;
 pub mod marks;
@@ -36,9 +34,12 @@ pub extern "C" fn labels_audit(
     ensures { result ≡ audited state.now (across terms cells chars reasons keys).entry }
 {
     if state.len() < STATE_ROOM {
-        return 1;
+        return u32::from(Refusal::Sizes);
     }
-    records::audit(terms, cells, chars, reasons, keys, state_of(state))
+    match records::audit(terms, cells, chars, reasons, keys, state_of(state)) {
+        Ok(()) => 0,
+        Err(refusal) => u32::from(refusal),
+    }
 }
 
 #[unsafe(no_mangle)]
@@ -55,7 +56,7 @@ pub extern "C" fn labels_make_constant(
     ensures { ExportsNumber (constant_arguments text.now) (make_constant text.now) (across (changing terms) cells (changing chars) reasons keys) (changing state) (changing answer) result }
 {
     if !is_roomy(STATE_ROOM, state, answer) {
-        return 1;
+        return u32::from(Refusal::Sizes);
     }
     let c = state_of(state);
     let made = make::make_constant(terms, cells, chars, reasons, keys, c, text);
@@ -76,7 +77,7 @@ pub extern "C" fn labels_make_variable(
     ensures { ExportsNumber (variable_arguments name.now) (make_variable name.now) (across (changing terms) cells (changing chars) reasons keys) (changing state) (changing answer) result }
 {
     if !is_roomy(STATE_ROOM, state, answer) {
-        return 1;
+        return u32::from(Refusal::Sizes);
     }
     let c = state_of(state);
     let made = make::make_variable(terms, cells, chars, reasons, keys, c, name);
@@ -97,7 +98,7 @@ pub extern "C" fn labels_make_concatenation(
     ensures { ExportsNumber (concat_arguments parts.now) (make_concat parts.now) (across (changing terms) (changing cells) chars reasons keys) (changing state) (changing answer) result }
 {
     if !is_roomy(STATE_ROOM, state, answer) {
-        return 1;
+        return u32::from(Refusal::Sizes);
     }
     let c = state_of(state);
     let made = build::make_concatenation(terms, cells, chars, reasons, keys, c, parts);
@@ -118,7 +119,7 @@ pub extern "C" fn labels_make_length(
     ensures { ExportsNumber (length_arguments t) (make_length t) (across (changing terms) cells chars reasons keys) (changing state) (changing answer) result }
 {
     if !is_roomy(STATE_ROOM, state, answer) {
-        return 1;
+        return u32::from(Refusal::Sizes);
     }
     let c = state_of(state);
     let made = build::make_length(terms, cells, chars, reasons, keys, c, t);
@@ -140,7 +141,7 @@ pub extern "C" fn labels_make_equation(
     ensures { ExportsNumber (equation_arguments t u) (make_equation t u) (across (changing terms) cells chars reasons keys) (changing state) (changing answer) result }
 {
     if !is_roomy(STATE_ROOM, state, answer) {
-        return 1;
+        return u32::from(Refusal::Sizes);
     }
     let c = state_of(state);
     let made = build::make_equation(terms, cells, chars, reasons, keys, c, t, u);
@@ -161,13 +162,12 @@ pub extern "C" fn labels_find(
     ensures { ExportsNumber (find_arguments t) (find t) (across terms cells chars reasons keys) state (changing answer) result }
 {
     if !is_roomy(STATE_ROOM, state, answer) {
-        return 1;
+        return u32::from(Refusal::Sizes);
     }
     let c = state_of(state);
-    let found = engine::find(terms, cells, chars, reasons, keys, c, t);
-    match found {
-        Found::Root(u) => tell_still(state, answer, &[u]),
-        Found::Refused(k) => k,
+    match engine::find(terms, cells, chars, reasons, keys, c, t) {
+        Ok(root) => tell_still(state, answer, &[root]),
+        Err(refusal) => u32::from(refusal),
     }
 }
 
@@ -185,7 +185,7 @@ pub extern "C" fn labels_explain(
     ensures { Between (ExportedExplain a b) (across terms cells chars (changing reasons) keys) state.old state.new result }
 {
     if state.len() < STATE_ROOM {
-        return 1;
+        return u32::from(Refusal::Sizes);
     }
     let c = state_of(state);
     let added = engine::explain(terms, cells, chars, reasons, keys, c, a, b);
@@ -208,11 +208,13 @@ pub extern "C" fn labels_normal_form(
     ensures { ExportsList (ExportedForm known.now t) (across (changing terms) cells (changing chars) (changing reasons) keys) (changing list) (changing state) (changing answer) result }
 {
     if !is_roomy(STATE_ROOM, state, answer) {
-        return 1;
+        return u32::from(Refusal::Sizes);
     }
     let c = state_of(state);
-    let made = normalize::normal_form_cited(terms, cells, chars, reasons, keys, c, known, t, list);
-    tell_form(state, answer, made)
+    match normalize::normal_form_cited(terms, cells, chars, reasons, keys, c, known, t, list) {
+        Ok((n, d)) => tell_words(state, answer, d, &[1, n as u32]),
+        Err(refusal) => u32::from(refusal),
+    }
 }
 
 #[unsafe(no_mangle)]
@@ -231,13 +233,17 @@ pub extern "C" fn labels_deep_normal_form(
     ensures { ExportsList (ExportedDeepForm known.now t) (across (changing terms) cells (changing chars) (changing reasons) keys) (changing list) (changing state) (changing answer) result }
 {
     if !is_roomy(STATE_ROOM, state, answer) {
-        return 1;
+        return u32::from(Refusal::Sizes);
     }
     let c = state_of(state);
     let made = normalize::deep_normal_form_cited(
         terms, cells, chars, reasons, keys, c, known, t, list,
     );
-    tell_deep_form(state, answer, made)
+    match made {
+        Ok((Some(n), d)) => tell_words(state, answer, d, &[1, n as u32]),
+        Ok((None, d)) => tell_words(state, answer, d, &[0, 0]),
+        Err(refusal) => u32::from(refusal),
+    }
 }
 
 #[unsafe(no_mangle)]
@@ -257,13 +263,16 @@ pub extern "C" fn labels_resolve_equation<'a>(
     ensures { ExportsList (ExportedResolve lhs.now rhs.now guard) (across (changing terms) (changing cells) (changing chars) (changing reasons) (changing keys)) (changing list) (changing state) (changing answer) result }
 {
     if !is_roomy(STATE_ROOM, state, answer) {
-        return 1;
+        return u32::from(Refusal::Sizes);
     }
     let c = state_of(state);
     let made = wordeq::resolve_equation(
         terms, cells, chars, reasons, keys, c, lhs, rhs, guard, list,
     );
-    tell_answer(state, answer, made)
+    match made {
+        Ok(told) => tell_answer(state, answer, told),
+        Err(refusal) => u32::from(refusal),
+    }
 }
 
 #[unsafe(no_mangle)]
@@ -281,13 +290,12 @@ pub extern "C" fn labels_nf_equal(
     ensures { ExportedEqual lhs.now rhs.now (across terms cells chars reasons keys).entry state.now answer.old answer.new result }
 {
     if !is_roomy(STATE_ROOM, state, answer) {
-        return 1;
+        return u32::from(Refusal::Sizes);
     }
     let c = state_of(state);
-    let compared = wordeq::nf_equal(terms, cells, chars, reasons, keys, c, lhs, rhs);
-    match compared {
-        Equality::Is(b) => tell_still(state, answer, &[flag_of(b)]),
-        Equality::Refused(k) => k,
+    match wordeq::nf_equal(terms, cells, chars, reasons, keys, c, lhs, rhs) {
+        Ok(equal) => tell_still(state, answer, &[u32::from(equal)]),
+        Err(refusal) => u32::from(refusal),
     }
 }
 
@@ -305,7 +313,7 @@ pub extern "C" fn labels_nf_equal_explain(
     ensures { Between (ExportedEqualExplain lhs.now rhs.now) (across terms cells chars (changing reasons) keys) state.old state.new result }
 {
     if state.len() < STATE_ROOM {
-        return 1;
+        return u32::from(Refusal::Sizes);
     }
     let c = state_of(state);
     let added = wordeq::nf_equal_explain(terms, cells, chars, reasons, keys, c, lhs, rhs);
@@ -329,9 +337,13 @@ pub extern "C" fn labels_step(
     ensures { ExportsList (ExportedStep known.now e guard) (across (changing terms) (changing cells) (changing chars) (changing reasons) (changing keys)) (changing list) (changing state) (changing answer) result }
 {
     if !is_roomy(STATE_ROOM, state, answer) {
-        return 1;
+        return u32::from(Refusal::Sizes);
     }
     let c = state_of(state);
     let made = equation::step(terms, cells, chars, reasons, keys, c, known, e, guard, list);
-    tell_outcome(state, answer, made)
+    match made {
+        Ok(Outcome::Answered(told)) => tell_answer(state, answer, told),
+        Ok(Outcome::Unexpanded(d)) => tell_words(state, answer, d, &[5]),
+        Err(refusal) => u32::from(refusal),
+    }
 }

@@ -1,16 +1,16 @@
 // Joining, setting a mark and going back. Their state has two words more: 6 counts the marks that stand, 7 the joins recorded since the
 // first of them. The other calls leave these alone.
-ghost use Rattle.std.specs.Prelude.{◌≡◌, true, [], ◌≤◌, length};
+ghost use Rattle.std.specs.Prelude.{◌≡◌, true, ◌≤◌, length};
 ghost use Rattle.records.specs.View.{across, changing};
 ghost use Rattle.classes.specs.Calls.{set_mark, Tracks, PublicJoin};
 ghost use Rattle.capi.specs.Interface.{roomy};
 ghost use Rattle.capi.specs.Marks.{standing_of, marked_room, ExportsMarks, ExportsBack};
-ghost use Rattle.capi.specs.Working.Leaves.{ToldBy, ToldIn};
-ghost use Rattle.capi.specs.Working.Standings.{standing_in, NarrowStanding, NarrowGiven, number_telling, standing_telling};
+ghost use Rattle.capi.specs.Working.Leaves.{ToldIn};
+ghost use Rattle.capi.specs.Working.Standings.{standing_in, NarrowStanding, NarrowGiven, number_telling};
 
 use crate::telling::{is_roomy, state_of, write_words};
-use classes::{Answer, Standing};
-use records::fields;
+use classes::Standing;
+use records::{Refusal, fields};
 
 // The words that a state must have which counts marks and joins.
 const MARKED_ROOM: usize = 8;
@@ -33,34 +33,19 @@ fn write_standing(state: &mut [u32], e: Standing)
     state[7] = e.joins as u32;
 }
 
-// The counts into the state's words; a refusal writes none.
-fn tell_standing(state: &mut [u32], told: Answer) -> u32
-    requires fact_1 { marked_room ≤ length state.old }
-    requires fact_2 { NarrowGiven told }
-    ensures { ToldBy standing_in standing_telling state.old state.new [] [] told result }
-{
-    match told {
-        Answer::Given(_, e) => {
-            write_standing(state, e);
-            0
-        }
-        Answer::Refused(k) => k,
-    }
-}
-
-// The same, and the number into the answer's first word.
-fn tell_number(state: &mut [u32], answer: &mut [u32], told: Answer) -> u32
-    requires fact_1 { roomy marked_room state.old answer.old ≡ true }
-    requires fact_2 { NarrowGiven told }
+// The counts into the state's words and the number into the answer's first; a refusal writes none.
+fn tell_number(state: &mut [u32], answer: &mut [u32], told: Result<(u32, Standing), Refusal>) -> u32
+    requires room { roomy marked_room state.old answer.old ≡ true }
+    requires narrow { NarrowGiven told }
     ensures { ToldIn standing_in number_telling (changing state) (changing answer) told result }
 {
     match told {
-        Answer::Given(n, e) => {
+        Ok((n, e)) => {
             write_standing(state, e);
             write_words(answer, &[n]);
             0
         }
-        Answer::Refused(k) => k,
+        Err(refusal) => u32::from(refusal),
     }
 }
 
@@ -82,7 +67,7 @@ pub extern "C" fn labels_join(
     ensures { ExportsMarks (PublicJoin a b kind number) 7 8 (across (changing terms) cells chars reasons keys) (changing marks) (changing state) (changing answer) result }
 {
     if !is_roomy(MARKED_ROOM, state, answer) {
-        return 1;
+        return u32::from(Refusal::Sizes);
     }
     let c = state_of(state);
     let d = standing_of(state);
@@ -106,7 +91,7 @@ pub extern "C" fn labels_set_mark(
     ensures { ExportsMarks (Tracks set_mark) 6 7 (across terms cells chars reasons keys) (changing marks) (changing state) (changing answer) result }
 {
     if !is_roomy(MARKED_ROOM, state, answer) {
-        return 1;
+        return u32::from(Refusal::Sizes);
     }
     let c = state_of(state);
     let d = standing_of(state);
@@ -128,10 +113,15 @@ pub extern "C" fn labels_go_back(
     ensures { ExportsBack mark (across (changing terms) cells chars reasons keys) marks (changing state) result }
 {
     if state.len() < MARKED_ROOM {
-        return 1;
+        return u32::from(Refusal::Sizes);
     }
     let c = state_of(state);
     let d = standing_of(state);
-    let told = classes::go_back(terms, cells, chars, reasons, keys, c, marks, d, mark);
-    tell_standing(state, told)
+    match classes::go_back(terms, cells, chars, reasons, keys, c, marks, d, mark) {
+        Ok((_, e)) => {
+            write_standing(state, e);
+            0
+        }
+        Err(refusal) => u32::from(refusal),
+    }
 }

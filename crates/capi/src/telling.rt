@@ -1,21 +1,11 @@
 // An answer put into the words that a C caller lends: the state's six, and the answer's.
 ghost use Rattle.records.specs.View.{changing};
-ghost use Rattle.std.specs.Prelude.{◌≡◌, true, [], ℕ, ◌≤◌, length};
-ghost use Rattle.std.specs.Int.{w32};
-ghost use Rattle.std.proofs.Common.{of_z};
+ghost use Rattle.std.specs.Prelude.{◌≡◌, true, [], ℕ, ◌≤◌, length, Ok};
 ghost use Rattle.records.specs.declared.State.{State};
-ghost use Rattle.records.specs.declared.Made.TheVariants.{Term};
-ghost use Rattle.records.specs.declared.Added.TheVariants as adding;
-ghost use Rattle.normalize.specs.declared.Form.TheVariants as form;
-ghost use Rattle.normalize.specs.declared.DeepForm.TheVariants as deep;
 ghost use Rattle.capi.specs.Interface.{state_of, state_room, answer_room, roomy};
-ghost use Rattle.capi.specs.Equations.{flag};
-ghost use Rattle.capi.specs.Working.Leaves.{put_first, written, tells, ToldBy, ToldIn, made_telling, added_telling, form_telling, deep_telling, answer_telling, outcome_telling};
-ghost use Rattle.capi.specs.Working.Leaves.{Narrow, NarrowList, NarrowAnswer, NarrowOutcome};
+ghost use Rattle.capi.specs.Working.Leaves.{put_first, written, tells, ToldBy, ToldIn, made_telling, added_telling, answer_telling, Narrow, NarrowAnswer};
 
-use equation::Outcome;
-use normalize::{DeepForm, Form};
-use records::{Added, Made, State, fields};
+use records::{Refusal, State, fields};
 use sides::StepResult;
 
 // The words that a state and an answer must have.
@@ -41,12 +31,15 @@ pub(crate) fn write_state(state: &mut [u32], c: State)
     requires { (state_room ≤ length state.old) × Narrow c }
     ensures { state.new ≡ written c state.old }
 {
-    state[0] = c.terms as u32;
-    state[1] = c.cells as u32;
-    state[2] = c.chars as u32;
-    state[3] = c.reasons as u32;
-    state[4] = c.keys as u32;
-    state[5] = c.names;
+    let words = [
+        c.terms as u32,
+        c.cells as u32,
+        c.chars as u32,
+        c.reasons as u32,
+        c.keys as u32,
+        c.names,
+    ];
+    write_words(state, &words);
 }
 
 // Words put first in a slice.
@@ -54,21 +47,14 @@ pub(crate) fn write_words(to: &mut [u32], words: &[u32])
     requires { length words.now ≤ length to.old }
     ensures { to.new ≡ put_first words.now to.old }
 {
-    let mut i: usize = 0;
-    while i < words.len() {
-        to[i] = words[i];
-        i += 1;
-    }
+    to[..words.len()].copy_from_slice(words);
 }
 
 // Whether the state has n words and the answer its eight.
 pub(crate) fn is_roomy(n: usize, state: &[u32], answer: &[u32]) -> bool
     ensures { result ≡ roomy n state.now answer.now }
 {
-    if state.len() < n {
-        return false;
-    }
-    ANSWER_ROOM <= answer.len()
+    n <= state.len() && ANSWER_ROOM <= answer.len()
 }
 
 // The counts into the state's words, and words into the answer.
@@ -91,71 +77,32 @@ pub(crate) fn tell_still(state: &[u32], answer: &mut [u32], words: &[u32]) -> u3
 }
 
 // A making call's answer into the state's and the answer's words.
-pub(crate) fn tell(state: &mut [u32], answer: &mut [u32], made: Made) -> u32
-    requires { (roomy state_room state.old answer.old ≡ true) × ((t : ℕ) (c : State) → made ≡ Term t c → Narrow c) }
+pub(crate) fn tell(
+    state: &mut [u32],
+    answer: &mut [u32],
+    made: Result<(u32, State), Refusal>,
+) -> u32
+    requires { (roomy state_room state.old answer.old ≡ true) × ((t : ℕ) (c : State) → made ≡ Ok (t, c) → Narrow c) }
     ensures { ToldIn written made_telling (changing state) (changing answer) made result }
 {
     match made {
-        Made::Term(t, c) => tell_words(state, answer, c, &[t]),
-        Made::Refused(k) => k,
+        Ok((t, c)) => tell_words(state, answer, c, &[t]),
+        Err(refusal) => u32::from(refusal),
     }
 }
 
 // The counts after explain into the state's words.
-pub(crate) fn tell_counts(state: &mut [u32], added: Added) -> u32
-    requires { (state_room ≤ length state.old) × ((c : State) → added ≡ adding.Counts c → Narrow c) }
+pub(crate) fn tell_counts(state: &mut [u32], added: Result<State, Refusal>) -> u32
+    requires { (state_room ≤ length state.old) × ((c : State) → added ≡ Ok c → Narrow c) }
     ensures { ToldBy written added_telling state.old state.new [] [] added result }
 {
     match added {
-        Added::Counts(c) => {
+        Ok(c) => {
             write_state(state, c);
             0
         }
-        Added::Refused(k) => k,
+        Err(refusal) => u32::from(refusal),
     }
-}
-
-// A normal form's answer into the words.
-pub(crate) fn tell_form(state: &mut [u32], answer: &mut [u32], made: Form) -> u32
-    requires { (roomy state_room state.old answer.old ≡ true) × ((n : ℕ) (c : State) → made ≡ form.List n c → NarrowList n c) }
-    ensures { ToldIn written form_telling (changing state) (changing answer) made result }
-{
-    match made {
-        Form::List(n, c) => tell_words(state, answer, c, &[1, n as u32]),
-        Form::Refused(k) => k,
-    }
-}
-
-// A deep form's answer into the words.
-pub(crate) fn tell_deep_form(state: &mut [u32], answer: &mut [u32], made: DeepForm) -> u32
-    requires { (roomy state_room state.old answer.old ≡ true) × ((n : ℕ) (c : State) → made ≡ deep.List n c → NarrowList n c) × ((c : State) → made ≡ deep.None c → Narrow c) }
-    ensures { ToldIn written deep_telling (changing state) (changing answer) made result }
-{
-    match made {
-        DeepForm::List(n, c) => tell_words(state, answer, c, &[1, n as u32]),
-        DeepForm::None(c) => tell_words(state, answer, c, &[0, 0]),
-        DeepForm::Refused(k) => k,
-    }
-}
-
-pub(crate) fn flag_of(b: bool) -> u32
-    ensures { result ≡ flag b }
-{
-    if b {
-        return 1;
-    }
-    0
-}
-
-// A number as a 32-bit two's complement.
-pub(crate) fn bits_of(g: i32) -> u32
-    ensures { result ≡ of_z w32 g }
-{
-    if g < 0 {
-        let below = (-1 - g) as u32;
-        return 4294967295 - below;
-    }
-    g as u32
 }
 
 // An answer of wordeq into the words.
@@ -167,24 +114,12 @@ pub(crate) fn tell_answer(state: &mut [u32], answer: &mut [u32], made: StepResul
         StepResult::Done(c) => tell_words(state, answer, c, &[0]),
         StepResult::Saturated(c) => tell_words(state, answer, c, &[1]),
         StepResult::Conflict(c) => tell_words(state, answer, c, &[2]),
-        StepResult::Propagate(c, v, w, f) => tell_words(state, answer, c, &[3, v, w, flag_of(f)]),
+        StepResult::Propagate(c, v, w, f) => tell_words(state, answer, c, &[3, v, w, u32::from(f)]),
         StepResult::Split(c, n, g, k) => tell_words(
             state,
             answer,
             c,
-            &[4, n as u32, bits_of(g), k],
+            &[4, n as u32, g.cast_unsigned(), k],
         ),
-        StepResult::Refused(k) => k,
-    }
-}
-
-// An answer of the step over one equation into the words.
-pub(crate) fn tell_outcome(state: &mut [u32], answer: &mut [u32], made: Outcome) -> u32
-    requires { (roomy state_room state.old answer.old ≡ true) × NarrowOutcome made }
-    ensures { ToldIn written outcome_telling (changing state) (changing answer) made result }
-{
-    match made {
-        Outcome::Answered(r) => tell_answer(state, answer, r),
-        Outcome::Unexpanded(c) => tell_words(state, answer, c, &[5]),
     }
 }

@@ -1,7 +1,9 @@
 -- Document 02, Note 1: joining, setting a mark, going back to one, and what each call promises.
-use Rattle.std.specs.Prelude.{◌≡◌, Bool, false, ◌&&◌, ◌||◌, List, ℕ, zero, suc, ◌-◌, length, get_or, take, ltb, leb, if◌then◌else◌}
+use Rattle.std.specs.Prelude.{◌≡◌, Bool, false, ◌&&◌, ◌||◌, List, ℕ, zero, suc, ◌-◌, length, get_or, take, ltb, leb, Result, Ok, Err, if◌then◌else◌}
 use Rattle.std.proofs.Math.Option.{Option, none, some}
 use Rattle.records.specs.declared.State.{State}
+use Rattle.records.specs.declared.refusal.Refusal.{Refusal}
+use Rattle.records.specs.Refusal.{number}
 use Rattle.records.specs.Lists.{one_more}
 use Rattle.records.specs.Store.{Term, Store, within, is_string, same_class}
 use denote.Triple.Both.{Both}
@@ -10,8 +12,6 @@ use Rattle.records.specs.Index.{SameIndex}
 use Rattle.records.specs.Rules.{is_reason_kind, is_number}
 use Rattle.records.specs.Make.{with_terms}
 use Rattle.classes.specs.declared.Standing.{Standing}
-use Rattle.classes.specs.declared.Answer.{Answer}
-use Rattle.classes.specs.declared.Answer.TheVariants.{Given, Refused}
 use Rattle.classes.specs.Joins.{Trace, join_in, trace_of, Linked}
 use Rattle.classes.specs.Marks.{Trail, trail_of, mark_limit, trace_place, table_at, audit_marks}
 
@@ -70,9 +70,9 @@ unfoldable pub tracked : (Store → Trail → Outcome) → Lent → List ℕ →
 tracked work m l c d = unless (audit_marks m l c d) (work (store_of m c) (trail_of l d))
 
 -- the answer of a call, read in the words at exit
-abbrev pub answered : Answer → Lent → List ℕ → State → Outcome
-answered (Given n e) m l c = gives (store_of m c) (trail_of l e) n
-answered (Refused k) m l c = refuses k
+abbrev pub answered : Result (ℕ × Standing) Refusal → Lent → List ℕ → State → Outcome
+answered (Ok x) m l c = gives (store_of m c) (trail_of l x.1) x.0
+answered (Err k) m l c = refuses (number k)
 
 -- a word lent for marks that is counted
 abbrev pub is_counted : Standing → ℕ → Bool
@@ -92,14 +92,14 @@ abbrev pub Marked : {B : Type 1} → (Lent → Lent → List ℕ → List ℕ �
 Marked P x l = P x.entry x.exit l.entry.now l.exit.now
 
 -- its answer, that a refusal writes nothing, what it leaves alone, and that store and marks pass the audit again
-pub record Tracks (work : Store → Trail → Outcome) (m m' : Lent) (l l' : List ℕ) (c : State) (d : Standing) (r : Answer) : Type 0 where
+pub record Tracks (work : Store → Trail → Outcome) (m m' : Lent) (l l' : List ℕ) (c : State) (d : Standing) (r : Result (ℕ × Standing) Refusal) : Type 0 where
   pub says : answered r m' l' c ≡ tracked work m l c d
-  pub idle : (k : ℕ) → r ≡ Refused k → (m' ≡ m) × (l' ≡ l)
-  pub leaves : (n : ℕ) (e : Standing) → r ≡ Given n e → Leaves m m' l l' c e
-  pub audited : (n : ℕ) (e : Standing) → r ≡ Given n e → audit_marks m' l' c e ≡ 0
+  pub idle : (k : Refusal) → r ≡ Err k → (m' ≡ m) × (l' ≡ l)
+  pub leaves : (n : ℕ) (e : Standing) → r ≡ Ok (n, e) → Leaves m m' l l' c e
+  pub audited : (n : ℕ) (e : Standing) → r ≡ Ok (n, e) → audit_marks m' l' c e ≡ 0
 
 -- joining, besides: terms of one class are left as they are, and any other join adds the edge asked for
-pub record PublicJoin (a b k v : ℕ) (m m' : Lent) (l l' : List ℕ) (c : State) (d : Standing) (r : Answer) : Type 0 where
+pub record PublicJoin (a b k v : ℕ) (m m' : Lent) (l l' : List ℕ) (c : State) (d : Standing) (r : Result (ℕ × Standing) Refusal) : Type 0 where
   pub tracks : Tracks (join_terms a b k v) m m' l l' c d r
-  pub same : (e : Standing) → r ≡ Given 0 e → (m' ≡ m) × (l' ≡ l)
-  pub linked : (e : Standing) → r ≡ Given 1 e → Linked (store_of m c).terms (store_of m' c).terms a b k v
+  pub same : (e : Standing) → r ≡ Ok (0, e) → (m' ≡ m) × (l' ≡ l)
+  pub linked : (e : Standing) → r ≡ Ok (1, e) → Linked (store_of m c).terms (store_of m' c).terms a b k v

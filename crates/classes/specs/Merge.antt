@@ -1,6 +1,8 @@
 -- Document 01, 'Program `labelstep`': '`M child parent n` joins two classes under asserted reason n'.
-use Rattle.std.specs.Prelude.{◌≡◌, Bool, not, ◌&&◌, List, ℕ, zero, suc, ◌-◌, set, eqb}
+use Rattle.std.specs.Prelude.{◌≡◌, Bool, not, ◌&&◌, List, ℕ, ◌-◌, set, eqb, Result, Ok, Err}
 use Rattle.records.specs.declared.State.{State}
+use Rattle.records.specs.declared.refusal.Refusal.{Refusal}
+use Rattle.records.specs.Refusal.{number}
 use Rattle.records.specs.Store.{Term, Store, Out, ok, stop, Work, term_in, is_string, same_class}
 use Rattle.records.specs.View.{Lent, store_of, term_at}
 use Rattle.records.specs.Index.{SameIndex}
@@ -35,16 +37,16 @@ merge_in ts child parent n stamp = set ts (child - 1) (under (term_in ts child) 
 unfoldable pub merge_classes : ℕ → ℕ → ℕ → ℕ → Work (Unit {0})
 merge_classes child parent n stamp s = ok (with_terms s (merge_in s.terms child parent n stamp)) tt
 
--- the answer of merging: 0, or the refusal's number
-abbrev pub merged : ℕ → Lent → State → Out (Unit {0})
-merged zero m c = ok (store_of m c) tt
-merged (suc k) m c = stop (suc k)
+-- the answer of merging
+abbrev pub merged : Result (Unit {0}) Refusal → Lent → State → Out (Unit {0})
+merged (Ok u) m c = ok (store_of m c) tt
+merged (Err k) m c = stop (number k)
 
 -- merging is the call's outcome, a refusal changes nothing, no record but the child's changes, heads and ninth words stay, and what is merged
 -- passes the audit again
-pub record PublicMerge (m m' : Lent) (c : State) (child parent n stamp r : ℕ) : Type 0 where
+pub record PublicMerge (m m' : Lent) (c : State) (child parent n stamp : ℕ) (r : Result (Unit {0}) Refusal) : Type 0 where
   pub says : merged r m' c ≡ call (can_merge child parent n) (merge_classes child parent n stamp) m c
-  pub idle : (r ≡ 0 → ⊥) → m' ≡ m
+  pub idle : (k : Refusal) → r ≡ Err k → m' ≡ m
   pub others : (t : ℕ) → (t ≡ child → ⊥) → term_at m'.terms t ≡ term_at m.terms t
   pub index : (n : ℕ) → SameIndex m.terms m'.terms n
-  pub kept : r ≡ 0 → audit m' c ≡ 0
+  pub kept : r ≡ Ok tt → audit m' c ≡ 0

@@ -5,7 +5,6 @@
 ghost use Rattle.std.specs.Prelude.{◌≡◌, true, ◌≤◌, ◌<◌, length};
 ghost use Rattle.records.specs.Store.{within};
 ghost use Rattle.records.specs.View.{store_of, term_at, terms_view, term_words, termed, across, Between, changing, lent};
-ghost use Rattle.records.specs.Rules.{is_reason_kind};
 ghost use Rattle.records.specs.Working.Puts.{TermSet};
 ghost use Rattle.records.specs.Working.Audited.{Ready};
 ghost use Rattle.classes.specs.Marks.{mark_limit};
@@ -17,11 +16,11 @@ use crate::links::link_unchecked;
 use crate::trail::{
     MARK_LIMIT, audit, record_join_unchecked, record_mark_unchecked, undo_to_unchecked,
 };
-use records::State;
 use records::classes::{root_unchecked, top_unchecked};
 use records::fields::{class_parent, forest_parent, wide, word};
 use records::put::{put_class_parent_unchecked, put_edge_unchecked};
-use records::rules::{is_number, is_string, is_within};
+use records::rules::{is_number, is_reason_kind, is_string, is_within};
+use records::{Label, Refusal, State};
 
 mod links;
 pub mod trail;
@@ -31,10 +30,7 @@ fn is_root(terms: &[u32], n: usize, t: u32) -> bool
     requires { within n t ≡ true }
     ensures { result ≡ is_root_in (terms_view terms.now n) t }
 {
-    if class_parent(terms, t) != t {
-        return false;
-    }
-    forest_parent(terms, t) == t
+    class_parent(terms, t) == t && forest_parent(terms, t) == t
 }
 
 // Whether two classes can be merged so.
@@ -52,21 +48,11 @@ fn can_merge_unchecked(
     requires { Ready (lent terms.now cells.now chars.now reasons.now keys.now) c }
     ensures { result ≡ can_merge child parent n (store_of (across terms cells chars reasons keys).entry c) }
 {
-    if !is_string(terms, c.terms, child) {
-        return false;
-    }
-    if !is_string(terms, c.terms, parent) {
-        return false;
-    }
-    if !is_number(n) {
-        return false;
-    }
-    if !is_root(terms, c.terms, child) {
-        return false;
-    }
-    let a = root_unchecked(terms, c.terms, child);
-    let b = root_unchecked(terms, c.terms, parent);
-    a != b
+    is_string(terms, c.terms, child)
+        && is_string(terms, c.terms, parent)
+        && is_number(n)
+        && is_root(terms, c.terms, child)
+        && root_unchecked(terms, c.terms, child) != root_unchecked(terms, c.terms, parent)
 }
 
 // The child's record, under the parent.
@@ -75,10 +61,10 @@ fn put_under_unchecked(terms: &mut [u32], child: u32, parent: u32, n: u32, stamp
     ensures { TermSet terms.old terms.new child (under (term_at terms.old child) parent n stamp) }
 {
     put_class_parent_unchecked(terms, child, parent);
-    put_edge_unchecked(terms, child, parent, 1, n, stamp);
+    put_edge_unchecked(terms, child, parent, Label::Asserted.into(), n, stamp);
 }
 
-// Puts the child's class under the parent: 0, or the refusal. The caller's stamps count up.
+// Puts the child's class under the parent. The caller's stamps count up.
 pub fn merge(
     terms: &mut [u32],
     cells: &[u32],
@@ -90,18 +76,15 @@ pub fn merge(
     parent: u32,
     n: u32,
     stamp: u32,
-) -> u32
+) -> Result<(), Refusal>
     ensures { Between PublicMerge (across (changing terms) cells chars reasons keys) c child parent n stamp result }
 {
-    let k = records::audit(terms, cells, chars, reasons, keys, c);
-    if k != 0 {
-        return k;
-    }
+    records::audit(terms, cells, chars, reasons, keys, c)?;
     if !can_merge_unchecked(terms, cells, chars, reasons, keys, c, child, parent, n) {
-        return 5;
+        return Err(Refusal::Argument);
     }
     put_under_unchecked(terms, child, parent, n, stamp);
-    0
+    Ok(())
 }
 
 // How many marks stand, and how many joins were recorded since the first of them.
@@ -111,38 +94,16 @@ pub struct Standing {
     pub joins: usize,
 }
 
-// What joining, setting a mark and going back answer: a number, with the counts after the call; or the refusal.
-#[derive(Clone, Copy)]
-pub enum Answer {
-    Given(u32, Standing),
-    Refused(u32),
-}
-
 // JOINING, MARKS, GOING BACK
-
-fn is_reason_kind(k: u32) -> bool
-    ensures { result ≡ is_reason_kind k }
-{
-    if k == 1 {
-        return true;
-    }
-    k == 2
-}
 
 // Whether two terms can be joined under a reason: string terms, and a reason that a caller can give.
 fn can_join(terms: &[u32], c: State, a: u32, b: u32, kind: u32, number: u32) -> bool
     ensures { result ≡ join_arguments a b kind number (termed terms.now c) }
 {
-    if !is_string(terms, c.terms, a) {
-        return false;
-    }
-    if !is_string(terms, c.terms, b) {
-        return false;
-    }
-    if !is_reason_kind(kind) {
-        return false;
-    }
-    is_number(number)
+    is_string(terms, c.terms, a)
+        && is_string(terms, c.terms, b)
+        && is_reason_kind(kind)
+        && is_number(number)
 }
 
 // What joining answers over store and marks that pass: 1 where it joined, 0 where the terms are in one class already; and the counts after it.
@@ -232,6 +193,8 @@ pub fn go_back_unchecked(
 
 // THE CALLS
 
+// Each answers a number, with the counts after the call.
+
 // Joins two string terms under a reason: kind 1 asserted or 2 interface, and its number.
 pub fn join(
     terms: &mut [u32],
@@ -246,21 +209,17 @@ pub fn join(
     b: u32,
     kind: u32,
     number: u32,
-) -> Answer
+) -> Result<(u32, Standing), Refusal>
     ensures { Marked (PublicJoin a b kind number) (across (changing terms) cells chars reasons keys) (changing marks) c d result }
 {
-    let k = audit(terms, cells, chars, reasons, keys, c, marks, d);
-    if k != 0 {
-        return Answer::Refused(k);
-    }
+    audit(terms, cells, chars, reasons, keys, c, marks, d)?;
     if !can_join(terms, c, a, b, kind, number) {
-        return Answer::Refused(5);
+        return Err(Refusal::Argument);
     }
     let r = join_unchecked(
         terms, cells, chars, reasons, keys, c, marks, d, a, b, kind, number,
     );
-    let e = r.standing;
-    Answer::Given(r.answer, e)
+    Ok((r.answer, r.standing))
 }
 
 // Sets a mark and answers its number.
@@ -273,18 +232,15 @@ pub fn set_mark(
     c: State,
     marks: &mut [u32],
     d: Standing,
-) -> Answer
+) -> Result<(u32, Standing), Refusal>
     ensures { Marked (Tracks set_mark) (across terms cells chars reasons keys) (changing marks) c d result }
 {
-    let k = audit(terms, cells, chars, reasons, keys, c, marks, d);
-    if k != 0 {
-        return Answer::Refused(k);
-    }
+    audit(terms, cells, chars, reasons, keys, c, marks, d)?;
     if d.marks >= MARK_LIMIT {
-        return Answer::Refused(10);
+        return Err(Refusal::Mark);
     }
     let e = set_mark_unchecked(terms, cells, chars, reasons, keys, c, marks, d);
-    Answer::Given(e.marks as u32, e)
+    Ok((e.marks as u32, e))
 }
 
 // Goes back to a mark, which uses up that mark and later ones.
@@ -298,16 +254,13 @@ pub fn go_back(
     marks: &[u32],
     d: Standing,
     mark: u32,
-) -> Answer
+) -> Result<(u32, Standing), Refusal>
     ensures { Marked (Tracks (go_back mark)) (across (changing terms) cells chars reasons keys) marks c d result }
 {
-    let k = audit(terms, cells, chars, reasons, keys, c, marks, d);
-    if k != 0 {
-        return Answer::Refused(k);
-    }
+    audit(terms, cells, chars, reasons, keys, c, marks, d)?;
     if !is_within(d.marks, mark) {
-        return Answer::Refused(10);
+        return Err(Refusal::Mark);
     }
     let e = go_back_unchecked(terms, cells, chars, reasons, keys, c, marks, d, mark);
-    Answer::Given(mark, e)
+    Ok((mark, e))
 }

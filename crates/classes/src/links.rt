@@ -26,8 +26,7 @@ fn carry_unchecked(
     let mut k = kind;
     let mut v = value;
     let mut m = stamp;
-    let mut i: usize = 0;
-    while i <= n {
+    for _ in 0..=n {
         let above = fields::forest_parent(terms, at);
         let its_kind = fields::label_kind(terms, at);
         let its_value = fields::label_value(terms, at);
@@ -41,7 +40,6 @@ fn carry_unchecked(
         k = its_kind;
         v = its_value;
         m = its_stamp;
-        i += 1;
     }
 }
 
@@ -77,19 +75,11 @@ fn cut_unchecked(terms: &mut [u32], n: usize, child: u32, old: u32, under: u32)
 fn is_trace(terms: &[u32], n: usize, child: u32, old: u32, under: u32) -> bool
     ensures { result ≡ is_trace (terms_view terms.now n) (trace child old under) }
 {
-    if !is_within(n, child) {
-        return false;
-    }
-    if !is_within(n, old) {
-        return false;
-    }
-    if !is_within(n, under) {
-        return false;
-    }
-    if fields::forest_parent(terms, child) == child {
-        return false;
-    }
-    fields::class_parent(terms, under) != under
+    is_within(n, child)
+        && is_within(n, old)
+        && is_within(n, under)
+        && fields::forest_parent(terms, child) != child
+        && fields::class_parent(terms, under) != under
 }
 
 // Undoes a join by its trace; false where it is none.

@@ -2,6 +2,8 @@
 ghost use Rattle.std.specs.Prelude.{◌≡◌, true, ◌&&◌, ◌+◌, ◌<◌, ◌≤◌, length, get_or, drop};
 ghost use Rattle.records.specs.Lists.{all, one_more, table};
 ghost use Rattle.records.specs.View.{term_limit, term_words, terms_view, chained, across, changing, lent};
+ghost use Rattle.records.specs.Refusal.{verdict};
+ghost use Rattle.records.specs.Store.{within};
 ghost use Rattle.records.specs.Rules.{classes_rule, congruences_rule};
 ghost use Rattle.classes.specs.Joins.{trace, undo_in};
 ghost use Rattle.classes.specs.Marks.{join_limit, mark_limit, trace_place, trace_at, trail_of, trail_sizes, undo_all, table_at, counts_rule, passes, marks_rule, audit_marks};
@@ -13,7 +15,7 @@ use crate::links::undo_unchecked;
 use records::classes::{classes_ok_unchecked, congruences_ok_unchecked};
 use records::fields::{wide, word};
 use records::rules::is_within;
-use records::{BUCKETS, State, TERM_SLICE, TERM_WIDTH};
+use records::{BUCKETS, Refusal, State, TERM_SLICE, TERM_WIDTH};
 
 pub const MARK_LIMIT: usize = 64;
 
@@ -36,13 +38,7 @@ fn trace_word(marks: &[u32], j: usize, k: usize) -> u32
 fn trail_sizes(marks: &[u32], d: Standing) -> bool
     ensures { result ≡ trail_sizes marks.now d }
 {
-    if d.marks > MARK_LIMIT {
-        return false;
-    }
-    if d.joins > JOIN_LIMIT {
-        return false;
-    }
-    MARK_WORDS <= marks.len()
+    d.marks <= MARK_LIMIT && d.joins <= JOIN_LIMIT && MARK_WORDS <= marks.len()
 }
 
 // Records a join where a mark stands.
@@ -53,8 +49,8 @@ pub(crate) fn record_join_unchecked(
     old: u32,
     under: u32,
 ) -> Standing
-    requires fact_1 { TrailSized marks.old d }
-    requires fact_2 { d.joins < join_limit }
+    requires sized { TrailSized marks.old d }
+    requires room { d.joins < join_limit }
     ensures { Trailed marks.old marks.new (recorded (trace child old under) (trail_of marks.old d)) result }
 {
     if d.marks == 0 {
@@ -65,22 +61,21 @@ pub(crate) fn record_join_unchecked(
     marks[at + 1] = old;
     marks[at + 2] = under;
     Standing {
-        marks: d.marks,
         joins: d.joins + 1,
+        ..d
     }
 }
 
 // Records a mark.
 pub(crate) fn record_mark_unchecked(marks: &mut [u32], d: Standing) -> Standing
-    requires fact_1 { TrailSized marks.old d }
-    requires fact_2 { d.marks < mark_limit }
+    requires sized { TrailSized marks.old d }
+    requires room { d.marks < mark_limit }
     ensures { let x = trail_of marks.entry.now d in Trailed marks.entry.now marks.exit.now (record { marks = one_more x.marks (length x.joins); joins = x.joins }) result }
 {
-    let at = d.marks;
-    marks[at] = d.joins as u32;
+    marks[d.marks] = d.joins as u32;
     Standing {
         marks: d.marks + 1,
-        joins: d.joins,
+        ..d
     }
 }
 
@@ -88,8 +83,8 @@ pub(crate) fn record_mark_unchecked(marks: &mut [u32], d: Standing) -> Standing
 
 // Undoes join j.
 fn undo_join_unchecked(terms: &mut [u32], n: usize, marks: &[u32], j: usize) -> bool
-    requires fact_1 { Tabled terms.old n }
-    requires fact_2 { j ≤ join_limit }
+    requires tabled { Tabled terms.old n }
+    requires below { j ≤ join_limit }
     ensures { Undoes terms.old terms.new n (undo_in (terms_view terms.old n) (trace_at marks.now j)) result }
 {
     let child = trace_word(marks, j, 0);
@@ -107,14 +102,12 @@ pub(crate) fn undo_to_unchecked(
     joins: usize,
     first: usize,
 ) -> bool
-    requires fact_1 { Tabled terms.old n }
-    requires fact_2 { first ≤ joins }
-    requires fact_3 { joins ≤ join_limit }
+    requires tabled { Tabled terms.old n }
+    requires order { first ≤ joins }
+    requires below { joins ≤ join_limit }
     ensures { Undoes terms.old terms.new n (undo_all (drop first (table (trace_at marks.now) joins)) (terms_view terms.old n)) result }
 {
-    let mut j = joins;
-    while first < j {
-        j -= 1;
+    for j in (first..joins).rev() {
         if !undo_join_unchecked(terms, n, marks, j) {
             return false;
         }
@@ -136,31 +129,24 @@ fn counts_ok(marks: &[u32], d: Standing) -> bool
         return false;
     }
     let mut last: u32 = 0;
-    let mut i: usize = 0;
-    while i < d.marks {
-        let n = word(marks, i);
+    for &n in &marks[..d.marks] {
         if n < last {
             return false;
         }
         last = n;
-        i += 1;
     }
     wide(last) <= d.joins
 }
 
 // The words of n terms, record 0 too.
 fn copy_terms_unchecked(terms: &[u32], n: usize, table: &mut [u32; TERM_SLICE])
-    requires fact_1 { n ≤ term_limit }
-    requires fact_2 { term_words n ≤ length terms.now }
-    requires fact_3 { length table.old ≡ term_words term_limit }
+    requires few { n ≤ term_limit }
+    requires room { term_words n ≤ length terms.now }
+    requires whole { length table.old ≡ term_words term_limit }
     ensures { Copied terms.now table.old table.new n }
 {
     let words = BUCKETS + TERM_WIDTH * (n + 1);
-    let mut i: usize = 0;
-    while i < words {
-        table[i] = terms[i];
-        i += 1;
-    }
+    table[..words].copy_from_slice(&terms[..words]);
 }
 
 // Whether refusals 3 and 4 let a table pass.
@@ -168,10 +154,7 @@ fn table_ok_unchecked(table: &[u32], cells: &[u32], c: State) -> bool
     requires { Markable table.now cells.now c }
     ensures { let s = chained table.now cells.now c in result ≡ (classes_rule s && congruences_rule s) }
 {
-    if !classes_ok_unchecked(table, c) {
-        return false;
-    }
-    congruences_ok_unchecked(table, cells, c)
+    classes_ok_unchecked(table, c) && congruences_ok_unchecked(table, cells, c)
 }
 
 // Whether the table of every mark passes, from the last mark to the first.
@@ -182,15 +165,13 @@ fn tables_ok_unchecked(
     marks: &[u32],
     d: Standing,
 ) -> bool
-    requires fact_1 { Markable table.old cells.now c }
-    requires fact_2 { TrailSized marks.now d }
-    requires fact_3 { counts_rule (trail_of marks.now d).marks d.joins ≡ true }
+    requires markable { Markable table.old cells.now c }
+    requires sized { TrailSized marks.now d }
+    requires counts { counts_rule (trail_of marks.now d).marks d.joins ≡ true }
     ensures { let s = chained table.old cells.now c in let x = trail_of marks.now d in result ≡ all (λ n. passes s (table_at n x s.terms)) x.marks }
 {
     let mut joins = d.joins;
-    let mut i = d.marks;
-    while 0 < i {
-        i -= 1;
+    for i in (0..d.marks).rev() {
         let first = wide(word(marks, i));
         if !undo_to_unchecked(table, c.terms, marks, joins, first) {
             return false;
@@ -205,8 +186,8 @@ fn tables_ok_unchecked(
 
 // Whether going back to each mark gives a table that passes. It is worked out on a copy.
 fn marks_ok_unchecked(terms: &[u32], cells: &[u32], c: State, marks: &[u32], d: Standing) -> bool
-    requires fact_1 { Markable terms.now cells.now c }
-    requires fact_2 { TrailSized marks.now d }
+    requires markable { Markable terms.now cells.now c }
+    requires sized { TrailSized marks.now d }
     ensures { result ≡ marks_rule (chained terms.now cells.now c) (trail_of marks.now d) }
 {
     if !counts_ok(marks, d) {
@@ -215,12 +196,23 @@ fn marks_ok_unchecked(terms: &[u32], cells: &[u32], c: State, marks: &[u32], d: 
     if d.marks == 0 {
         return true;
     }
-    let mut table: [u32; TERM_SLICE] = [0; TERM_SLICE];
+    let mut table = [0; TERM_SLICE];
     copy_terms_unchecked(terms, c.terms, &mut table);
     tables_ok_unchecked(&mut table, cells, c, marks, d)
 }
 
-// The audit of store and marks: 0, or the first refusal of 1 to 4 that is due. Nothing is asked of the slices or of the counts.
+// Whether what the audit of the store found comes before what is wrong with the marks: 1, 2 or 3.
+fn comes_first(due: Result<(), Refusal>) -> bool
+    ensures { result ≡ within 3 (verdict due) }
+{
+    matches!(
+        due,
+        Err(Refusal::Sizes | Refusal::Records | Refusal::Classes)
+    )
+}
+
+// The audit of store and marks: the first refusal of 1 to 4 and 12 that is due, where 3 is the table's or the marks', before 4. Nothing is
+// asked of the slices or of the counts.
 pub fn audit(
     terms: &[u32],
     cells: &[u32],
@@ -230,18 +222,18 @@ pub fn audit(
     c: State,
     marks: &[u32],
     d: Standing,
-) -> u32
-    ensures { result ≡ audit_marks (across terms cells chars reasons keys).entry marks.now c d }
+) -> Result<(), Refusal>
+    ensures { verdict result ≡ audit_marks (across terms cells chars reasons keys).entry marks.now c d }
 {
     if !trail_sizes(marks, d) {
-        return 1;
+        return Err(Refusal::Sizes);
     }
-    let k = records::audit(terms, cells, chars, reasons, keys, c);
-    if is_within(3, k) {
-        return k;
+    let due = records::audit(terms, cells, chars, reasons, keys, c);
+    if comes_first(due) {
+        return due;
     }
     if !marks_ok_unchecked(terms, cells, c, marks, d) {
-        return 3;
+        return Err(Refusal::Classes);
     }
-    k
+    due
 }

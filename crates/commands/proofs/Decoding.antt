@@ -1,6 +1,7 @@
 -- UTF-8: a byte's tests, a character by its first byte, and the loop over characters.
+use Rattle.std.specs.Prelude.{Some, None}
 use mathlib.Core.Path.{◌≡◌, refl, sym, ap, subst, ◌∙◌}
-use mathlib.Core.Bool.{Bool, true, false, not, ◌&&◌, ◌||◌}
+use mathlib.Core.Bool.{Bool, true, false, ◌&&◌}
 use mathlib.Core.List.{List, [], ◌∷◌}
 use mathlib.Core.Option.{Option, none, some}
 use Prim.Native.Nat.{ℕ, zero, suc, ◌+◌, ◌-◌, ◌<◌, ◌≤◌}
@@ -10,46 +11,20 @@ use lib.ListN.{length, drop, get_or, set}
 use lib.Seq.{drop-cons, drop-drop, get_or-drop}
 use lib.ListN.{drop_of_length-le}
 use lib.Dec.{ltb, leb}
-use borrow.Author.Tests.{ltb-true, ltb-false, lt-ltb, le-ltb, le-leb, lt-leb, not-true, not-false}
+use borrow.Author.Tests.{ltb-true, ltb-false, lt-ltb, le-ltb}
 use Rattle.records.specs.Rules.{is_char}
 use Rattle.records.specs.Lists.{all}
-use Rattle.records.proofs.Lists.{both_left, both_right, decide, and-stop, and-next, three_1, left_false, right-false, both_true, failed, passed}
-use Rattle.commands.specs.declared.Char.{Char}
-use Rattle.commands.specs.declared.Char.TheVariants as char
-use Rattle.commands.specs.declared.Listing.TheVariants as listing
+use Rattle.records.proofs.Lists.{both_left, both_right, decide, both_true}
 use Rattle.commands.specs.Texts.{onto}
 use Rattle.commands.specs.Utf8.{is_next, six_more, is_scalar, shaped, char_by, char_of, decode_by, decode}
-use Rattle.commands.specs.Working.Readings.{char_is, Listed}
+use Rattle.commands.specs.Working.Readings.{Listed}
 use Rattle.commands.proofs.Listings.{Filled, filled_none, filled-one, filled_all, filled_bad}
 
--- A BYTE THAT GOES ON
-
-pub next_low : (b : ℕ) → b < 0x80 → false ≡ is_next b
-unfolding is_next
-next_low b h = and-stop (leb 0x80 b) (ltb b 0xC0) (lt-leb 0x80 b h)
-
-pub next-high : (b : ℕ) → 0x80 ≤ b → ltb b 0xC0 ≡ is_next b
-unfolding is_next
-next-high b h = and-next (leb 0x80 b) (ltb b 0xC0) (ltb b 0xC0) (le-leb 0x80 b h) refl
-
 -- ONE CHARACTER
-
-pub scalar_none : (x : ℕ) (b : Bool) → b ≡ is_char x → not b ≡ true → false ≡ is_scalar x
-unfolding is_scalar
-scalar_none x b e n = and-stop (is_char x) (ltb x 0xD800 || leb 0xE000 x) (failed _ b e n)
 
 scalar_ascii : (x : ℕ) → x < 0x80 → is_scalar x ≡ true
 unfolding is_scalar is_char
 scalar_ascii x h = rw (lt-ltb x 0x3_0000 (omega arith), lt-ltb x 0xD800 (omega arith))
-
-module _ (x : ℕ) (b : Bool) (e : b ≡ is_char x) (n : not b ≡ false) where
-  pub scalar_low : x < 0xD800 → true ≡ is_scalar x
-  unfolding is_scalar
-  scalar_low h = rw (passed _ b e n, lt-ltb x 0xD800 h)
-
-  pub scalar_high : 0xD800 ≤ x → leb 0xE000 x ≡ is_scalar x
-  unfolding is_scalar
-  scalar_high h = rw (passed _ b e n, le-ltb x 0xD800 h)
 
 abbrev size_in : Option (ℕ × ℕ) → ℕ
 size_in none = 0
@@ -68,12 +43,6 @@ module _ (k least : ℕ) (nexts : Bool) (x : ℕ) where
   unfolding shaped
   shaped-is e = rw (e, shaped)
 
-  pub unshaped : nexts ≡ false → none ≡ shaped k least nexts x
-  unshaped e = shaped-not (sym (three_1 nexts (leb least x) (is_scalar x) e))
-
-  pub shaped-by : (o : Option (ℕ × ℕ)) → nexts ≡ true → o ≡ shaped k least true x → o ≡ shaped k least nexts x
-  shaped-by o e p = rw e p
-
   pub shaped-size : (j y : ℕ) → shaped k least nexts x ≡ some (j, y) → j ≡ k
   shaped-size j y e = decide (nexts && leb least x && is_scalar x)
       (λ t. sym (ap size_in e) ∙ sym (ap size_in (shaped-is t)))
@@ -83,15 +52,6 @@ module _ (k least : ℕ) (nexts : Bool) (x : ℕ) where
   shaped_scalar j y e = decide (nexts && leb least x && is_scalar x)
       (λ t. subst (λ (z : ℕ). is_scalar z ≡ true) (ap number_in (shaped-is t ∙ e)) (both_right (nexts && leb least x) (is_scalar x) t))
       (λ t. let p = shaped-not t in let z : ◌≡◌ {A = ℕ} 0 1 = cc in absurd (omega arith))
-
-pub shape_low : (k least x : ℕ) → x < least → none ≡ shaped k least true x
-shape_low k least x h = shaped-not k least true x (left_false (leb least x) (is_scalar x) (lt-leb least x h))
-
-pub shape_odd : (k least x : ℕ) (b : Bool) → b ≡ is_scalar x → not b ≡ true → none ≡ shaped k least true x
-shape_odd k least x b e n = shaped-not k least true x (right-false (leb least x) (is_scalar x) (sym e ∙ not-true b n))
-
-pub shape_is : (k least x : ℕ) (b : Bool) → least ≤ x → b ≡ is_scalar x → not b ≡ false → some (k, x) ≡ shaped k least true x
-shape_is k least x b h e n = shaped-is k least true x (both_true (leb least x) (is_scalar x) (le-leb least x h) (sym e ∙ not-false b n))
 
 module _ (a b c d : ℕ) where
   pub by_one : a < 0x80 → some (1, a) ≡ char_by a b c d
@@ -154,9 +114,9 @@ char_at l at a b c d o p q r s e =
     let s' : d ≡ get_or (drop at l) 3 0 = s ∙ sym (get_or-drop at l 3 0) in
     e ∙ rw (p', q', r', s')
 
-pub char_size : (r : Char) (l : List ℕ) (k x : ℕ) → char_is r ≡ char_of l → r ≡ char.Is k x → (1 ≤ k) × (k ≤ 4)
+pub char_size : (l : List ℕ) (k x : ℕ) → some (k, x) ≡ char_of l → (1 ≤ k) × (k ≤ 4)
 unfolding char_of
-char_size r l k x s i = by_size (get_or l 0 0) (get_or l 1 0) (get_or l 2 0) (get_or l 3 0) k x (sym s ∙ ap char_is i)
+char_size l k x s = by_size (get_or l 0 0) (get_or l 1 0) (get_or l 2 0) (get_or l 3 0) k x (sym s)
 
 -- THE LOOP
 
@@ -187,33 +147,30 @@ module _ (l out₀ out : List ℕ) (at n : ℕ) (f : Decoded l out₀ out at n) 
   fuel : length l - n ≡ suc (length l - (n + 1))
   fuel = let g = f.low in omega arith
 
-  pub decoded_one : (r : Char) (k x : ℕ) → length l ≤ length out₀ → char_is r ≡ char_of (drop at l) → r ≡ char.Is k x → Decoded l out₀ (set out n x) (at + k) (n + 1)
-  decoded_one r k x b s i =
+  pub decoded_one : (k x : ℕ) → length l ≤ length out₀ → some (k, x) ≡ char_of (drop at l) → Decoded l out₀ (set out n x) (at + k) (n + 1)
+  decoded_one k x b e =
       let g = f.low in
-      let z = char_size r (drop at l) k x s i in
+      let z = char_size (drop at l) k x e in
       record {
         low = omega arith;
         within = omega arith;
         filled = filled-one (decode l) out₀ out n (decode_by (length l - n) (drop at l)) f.filled x (decode_by (length l - (n + 1)) (drop (at + k) l)) (omega arith) step;
       }
     where
-      e : some (k, x) ≡ char_of (drop at l)
-      e = ap char_is (sym i) ∙ s
-
       cons : drop at l ≡ get_or l at 0 ∷ drop (suc at) l
       cons = drop-cons l at 0 h
 
       step : decode_by (length l - n) (drop at l) ≡ onto x (decode_by (length l - (n + 1)) (drop (at + k) l))
       step = rw (fuel, ← drop-drop k at l, cons) (decode-next (length l - (n + 1)) (get_or l at 0) (drop (suc at) l) k x (ap char_of (sym cons) ∙ sym e))
 
-  pub decoded_bad : (r : Char) → char_is r ≡ char_of (drop at l) → r ≡ char.Bad → Listed (decode l) listing.Bad out
-  decoded_bad r s i = filled_bad (decode l) out₀ out n (decode_by (length l - n) (drop at l)) f.filled
-      (rw (fuel, cons) (decode-bad (length l - (n + 1)) (get_or l at 0) (drop (suc at) l) (ap char_of (sym cons) ∙ sym s ∙ ap char_is i)))
+  pub decoded_bad : none ≡ char_of (drop at l) → Listed (decode l) None out
+  decoded_bad s = filled_bad (decode l) out₀ out n (decode_by (length l - n) (drop at l)) f.filled
+      (rw (fuel, cons) (decode-bad (length l - (n + 1)) (get_or l at 0) (drop (suc at) l) (ap char_of (sym cons) ∙ sym s)))
     where
       cons : drop at l ≡ get_or l at 0 ∷ drop (suc at) l
       cons = drop-cons l at 0 h
 
-pub decoded_all : (l out₀ out : List ℕ) (at n : ℕ) → Decoded l out₀ out at n → length l ≤ at → length l ≤ length out₀ → Listed (decode l) (listing.Count n) out
+pub decoded_all : (l out₀ out : List ℕ) (at n : ℕ) → Decoded l out₀ out at n → length l ≤ at → length l ≤ length out₀ → Listed (decode l) (Some n) out
 decoded_all l out₀ out at n f h r =
     let g = f.within in
     filled_all (decode l) out₀ out n (decode_by (length l - n) (drop at l)) f.filled (omega arith) (rw (drop_of_length-le l h) (decode-end (length l - n)))

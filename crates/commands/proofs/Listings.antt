@@ -1,4 +1,5 @@
 -- A list that a loop fills: what stands in it already, before what is still to come.
+use Rattle.std.specs.Prelude.{Some, None}
 use mathlib.Core.Path.{◌≡◌, refl, sym, ap, ◌∙◌}
 use mathlib.Core.List.{List, [], ◌∷◌, ◌++◌, append_assoc, append-nil}
 use mathlib.Core.Option.{Option, none, some}
@@ -8,7 +9,6 @@ use native.Mathlib.Omega.{arith}
 use lib.ListN.{length, take, set}
 use lib.ListN.{drop, length-drop}
 use lib.Seq.{take-suc-set, take_all}
-use Rattle.commands.specs.declared.Listing.TheVariants as listing
 use Rattle.commands.specs.Texts.{onto}
 use Rattle.commands.specs.Working.Readings.{Listed}
 
@@ -41,12 +41,12 @@ module _ (whole : Option (List ℕ)) (l₀ l : List ℕ) (n : ℕ) (o : Option (
         rest = rw (add-one n, take-suc-set l n x (omega arith)) (sym (before-onto (take n l) x o') ∙ ap (before (take n l)) (sym e) ∙ f.rest);
       }
 
-  pub filled_all : n ≤ length l₀ → o ≡ some [] → Listed whole (listing.Count n) l
+  pub filled_all : n ≤ length l₀ → o ≡ some [] → Listed whole (Some n) l
   filled_all h e =
       let g = f.long in
       record { says = ap some (sym (append-nil (take n l))) ∙ ap (before (take n l)) (sym e) ∙ f.rest; fits = omega arith }
 
-  pub filled_bad : o ≡ none → Listed whole listing.Bad l
+  pub filled_bad : o ≡ none → Listed whole None l
   filled_bad e = record { says = ap (before (take n l)) (sym e) ∙ f.rest; fits = omega arith }
 
 -- all but the first, as a part of a slice

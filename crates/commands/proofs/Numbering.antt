@@ -1,5 +1,6 @@
 -- Decimal numbers and fields: the loop over digits, the loop over bytes up to a space, the loop over fields.
 use Rattle.std.specs.Prelude.{if◌then◌else◌}
+use Rattle.std.specs.Prelude.{Some, None}
 use mathlib.Core.Path.{◌≡◌, refl, sym, ap, ◌∙◌}
 use mathlib.Core.Bool.{Bool, true, false, ◌&&◌}
 use mathlib.Core.List.{List, [], ◌∷◌}
@@ -9,17 +10,15 @@ use native.Mathlib.Numerals.{add-one}
 use native.Mathlib.Omega.{arith}
 use lib.ListN.{length, take, drop, get_or, set, drop_of_length-le, length-drop}
 use lib.Seq.{drop-cons, drop-drop}
-use lib.Dec.{eqb, ltb, leb}
-use borrow.Author.Tests.{ltb-true, ltb-false, lt-ltb, le-ltb, le-leb, lt-leb, eq-eqb, ne_eqb, eqb-true, eqb-false}
+use lib.Dec.{eqb, ltb}
+use borrow.Author.Tests.{ltb-true, ltb-false, lt-ltb, le-ltb, le-leb, eq-eqb, ne_eqb, eqb-true, eqb-false}
+use Rattle.std.specs.Char.{is_ascii_digit}
 use Rattle.records.specs.Lists.{all, up_to}
 use Rattle.records.proofs.Lists.{decide, left_false, right-false, both_true, both_left, both_right}
-use Rattle.commands.specs.declared.Number.{Number}
-use Rattle.commands.specs.declared.Number.TheVariants as number
-use Rattle.commands.specs.declared.Listing.TheVariants as listing
 use Rattle.commands.specs.Texts.{both, space, with_first, parted, fields, is_digit, value_from, number_below, word_limit, numbers}
 use Rattle.commands.specs.Commands.{numbers_after}
-use Rattle.commands.specs.Working.Readings.{number_is, Listed}
-use Rattle.commands.proofs.Listings.{Filled, filled_none, filled-one, filled_all, filled_bad}
+use Rattle.commands.specs.Working.Readings.{Listed}
+use Rattle.commands.proofs.Listings.{Filled, filled-one, filled_all, filled_bad}
 
 -- DIGITS
 
@@ -83,17 +82,10 @@ read_none m w h k = record { below = h; rest = sym (read_whole m w h (some-lengt
     some-length [] z = absurd (z refl)
     some-length (b ∷ v) z = omega arith
 
-digit_is : (b : ℕ) → 48 ≤ b → b ≤ 57 → is_digit b ≡ true
+-- the library's test is the definition's
+digit_is : (b : ℕ) → is_ascii_digit b ≡ is_digit b
 unfolding is_digit
-digit_is b h k = both_true (leb 48 b) (leb b 57) (le-leb 48 b h) (le-leb b 57 k)
-
-digit_low : (b : ℕ) → b < 48 → is_digit b ≡ false
-unfolding is_digit
-digit_low b h = left_false (leb 48 b) (leb b 57) (lt-leb 48 b h)
-
-digit_high : (b : ℕ) → 57 < b → is_digit b ≡ false
-unfolding is_digit
-digit_high b h = right-false (leb 48 b) (leb b 57) (lt-leb b 57 h)
+digit_is b = refl
 
 module _ (m : ℕ) (w : List ℕ) (x i : ℕ) (f : Read m w x i) (h : i < length w) where
   cons : drop i w ≡ get_or w i 0 ∷ drop (suc i) w
@@ -102,20 +94,18 @@ module _ (m : ℕ) (w : List ℕ) (x i : ℕ) (f : Read m w x i) (h : i < length
   stop-here : is_digit (get_or w i 0) && ltb (10 * x + (get_or w i 0 - 48)) m ≡ false → none ≡ number_below m w
   stop-here e = sym (rw cons (read-stop m x (get_or w i 0) (drop (suc i) w) e)) ∙ f.rest
 
-  pub read_low : get_or w i 0 < 48 → none ≡ number_below m w
-  read_low k = stop-here (left_false (is_digit (get_or w i 0)) _ (digit_low (get_or w i 0) k))
+  pub read_odd : false ≡ is_ascii_digit (get_or w i 0) → none ≡ number_below m w
+  read_odd k = stop-here (left_false (is_digit (get_or w i 0)) _ (sym (k ∙ digit_is (get_or w i 0))))
 
-  pub read-high : 57 < get_or w i 0 → none ≡ number_below m w
-  read-high k = stop-here (left_false (is_digit (get_or w i 0)) _ (digit_high (get_or w i 0) k))
+  module _ (d : ℕ) (e : d ≡ get_or w i 0 - 48) where
+    pub read_past : m ≤ 10 * x + d → none ≡ number_below m w
+    read_past k = stop-here (right-false (is_digit (get_or w i 0)) _ (le-ltb _ m (omega arith)))
 
-  pub read_past : m ≤ 10 * x + (get_or w i 0 - 48) → none ≡ number_below m w
-  read_past k = stop-here (right-false (is_digit (get_or w i 0)) _ (le-ltb _ m k))
-
-  pub read_one : 48 ≤ get_or w i 0 → get_or w i 0 ≤ 57 → 10 * x + (get_or w i 0 - 48) < m → Read m w (10 * x + (get_or w i 0 - 48)) (i + 1)
-  read_one a b k = record {
-    below = k;
-    rest = rw (add-one i) (sym (rw cons (read_next m x (get_or w i 0) (drop (suc i) w) (both_true _ _ (digit_is (get_or w i 0) a b) (lt-ltb _ m k)))) ∙ f.rest);
-  }
+    pub read_one : true ≡ is_ascii_digit (get_or w i 0) → 10 * x + d < m → Read m w (10 * x + d) (i + 1)
+    read_one a k = record {
+      below = k;
+      rest = rw (add-one i, e) (sym (rw cons (read_next m x (get_or w i 0) (drop (suc i) w) (both_true _ _ (sym (a ∙ digit_is (get_or w i 0))) (lt-ltb _ m (omega arith))))) ∙ f.rest);
+    }
 
 pub read_all : (m : ℕ) (w : List ℕ) (x i : ℕ) → Read m w x i → length w ≤ i → some x ≡ number_below m w
 unfolding read_from
@@ -164,9 +154,6 @@ pub record Passed (l : List ℕ) (at i : ℕ) : Type 0 where
   pub high : i ≤ length l
   pub rest : i + length (up_to space (drop i l)) ≡ at + length (up_to space (drop at l))
 
-pub passed_none : (l : List ℕ) (at : ℕ) → at ≤ length l → Passed l at at
-passed_none l at h = record { low = omega arith; high = h; rest = refl }
-
 module _ (l : List ℕ) (at i : ℕ) (f : Passed l at i) where
   pub passed_here : i < length l → get_or l i 0 ≡ 32 → i ≡ at + length (up_to space (drop at l))
   passed_here h e =
@@ -182,12 +169,12 @@ module _ (l : List ℕ) (at i : ℕ) (f : Passed l at i) where
       let a = f.low in
       record { low = omega arith; high = omega arith; rest = rw (add-one i) (omega arith) }
 
-  pub passed_all : length l ≤ i → i ≡ at + length (up_to space (drop at l))
+  pub passed_all : length l ≤ i → length l ≡ at + length (up_to space (drop at l))
   unfolding up_to
   passed_all h =
       let g : up_to space (drop i l) ≡ [] = rw (drop_of_length-le l h) in
       let k : length (up_to space (drop i l)) ≡ 0 = ap length g in
-      let q = f.rest in omega arith
+      let q = f.rest in let b = f.high in omega arith
 
 -- a field ends within the line
 pub field_within : (l : List ℕ) (at e : ℕ) → at ≤ length l → e ≡ at + length (up_to space (drop at l)) → e ≤ length l
@@ -238,14 +225,11 @@ pub record Numbered (l out₀ out : List ℕ) (at n : ℕ) : Type 0 where
   pub within : at ≤ length l
   pub filled : Filled (numbers_after l) out₀ out n (numbers_after (drop at l))
 
-pub numbered_none : (l out : List ℕ) → Numbered l out out 0 0
-numbered_none l out = record { low = omega arith; within = omega arith; filled = filled_none out (numbers_after l) }
-
 module _ (l out₀ out : List ℕ) (at n : ℕ) (f : Numbered l out₀ out at n) (h : at < length l) where
   here : drop at l ≡ get_or l at 0 ∷ drop (suc at) l
   here = drop-cons l at 0 h
 
-  pub numbered_odd : (get_or l at 0 ≡ 32 → ⊥) → Listed (numbers_after l) listing.Bad out
+  pub numbered_odd : (get_or l at 0 ≡ 32 → ⊥) → Listed (numbers_after l) None out
   unfolding fields
   numbered_odd z = filled_bad (numbers_after l) out₀ out n (numbers_after (drop at l)) f.filled (rw here (rw (ne_eqb (get_or l at 0) 32 z, fields)))
 
@@ -258,22 +242,21 @@ module _ (l out₀ out : List ℕ) (at n : ℕ) (f : Numbered l out₀ out at n)
     unfolding numbers
     turn = spaced ∙ ap numbers (field_is l (at + 1) e q) ∙ rw (numbers_after_lem (drop e l) (field_stops l (at + 1) e q))
 
-    module _ (r : Number) (s : number_is r ≡ number_below word_limit (take (e - (at + 1)) (drop (at + 1) l))) where
-      pub numbered_one : (x : ℕ) → r ≡ number.Fits x → length l ≤ length out₀ → Numbered l out₀ (set out n x) e (n + 1)
-      numbered_one x i k =
-          let a = f.low in
-          record {
-            low = omega arith;
-            within = field_within l (at + 1) e (omega arith) q;
-            filled = filled-one (numbers_after l) out₀ out n (numbers_after (drop at l)) f.filled x (numbers_after (drop e l)) (omega arith)
-                (turn ∙ ap (λ (o : Option ℕ). both o (numbers_after (drop e l))) (sym s ∙ ap number_is i));
-          }
+    pub numbered_one : (x : ℕ) → some x ≡ number_below word_limit (take (e - (at + 1)) (drop (at + 1) l)) → length l ≤ length out₀ → Numbered l out₀ (set out n x) e (n + 1)
+    numbered_one x s k =
+        let a = f.low in
+        record {
+          low = omega arith;
+          within = field_within l (at + 1) e (omega arith) q;
+          filled = filled-one (numbers_after l) out₀ out n (numbers_after (drop at l)) f.filled x (numbers_after (drop e l)) (omega arith)
+              (turn ∙ ap (λ (o : Option ℕ). both o (numbers_after (drop e l))) (sym s));
+        }
 
-      pub numbered_bad : r ≡ number.Bad → Listed (numbers_after l) listing.Bad out
-      numbered_bad i = filled_bad (numbers_after l) out₀ out n (numbers_after (drop at l)) f.filled
-          (turn ∙ ap (λ (o : Option ℕ). both o (numbers_after (drop e l))) (sym s ∙ ap number_is i))
+    pub numbered_bad : none ≡ number_below word_limit (take (e - (at + 1)) (drop (at + 1) l)) → Listed (numbers_after l) None out
+    numbered_bad s = filled_bad (numbers_after l) out₀ out n (numbers_after (drop at l)) f.filled
+        (turn ∙ ap (λ (o : Option ℕ). both o (numbers_after (drop e l))) (sym s))
 
-pub numbered_all : (l out₀ out : List ℕ) (at n : ℕ) → Numbered l out₀ out at n → length l ≤ at → length l ≤ length out₀ → Listed (numbers_after l) (listing.Count n) out
+pub numbered_all : (l out₀ out : List ℕ) (at n : ℕ) → Numbered l out₀ out at n → length l ≤ at → length l ≤ length out₀ → Listed (numbers_after l) (Some n) out
 unfolding fields numbers
 numbered_all l out₀ out at n f h r =
     let a = f.low in

@@ -1,4 +1,5 @@
 -- A line to a command: what the functions that read it make of a list, of two fields, and of the line's letter.
+use Rattle.std.specs.Prelude.{Option as RustOption, None}
 use mathlib.Core.Path.{◌≡◌, refl, sym, ap, ◌∙◌}
 use mathlib.Core.List.{List, [], ◌∷◌}
 use mathlib.Core.Option.{Option, none, some}
@@ -6,34 +7,27 @@ use Prim.Native.Nat.{ℕ, suc, ◌+◌, ◌-◌, ◌<◌, ◌≤◌}
 use native.Mathlib.Numerals.{add-one}
 use native.Mathlib.Omega.{arith}
 use lib.ListN.{length, take, drop, get_or}
-use lib.Seq.{length-take-le}
 use lib.IntN.{ℤ}
 use mir.Syntax.{w32}
 use mir.Val.{SFits, to_z, of_z}
 use mir.Facts.{to_z-of_z}
 use borrow.Author.Tests.{eq-eqb, ne_eqb, le-leb, lt-leb}
 use Rattle.records.specs.Lists.{up_to}
-use Rattle.commands.specs.declared.Number.{Number}
-use Rattle.commands.specs.declared.Number.TheVariants as number
-use Rattle.commands.specs.declared.Guard.{Guard}
-use Rattle.commands.specs.declared.Guard.TheVariants as guard
-use Rattle.commands.specs.declared.Listing.{Listing}
-use Rattle.commands.specs.declared.Listing.TheVariants as listing
 use Rattle.commands.specs.Texts.{space, parted, fields, number_below, word_limit, guard_of}
 use Rattle.commands.specs.Utf8.{decode}
-use Rattle.commands.specs.Commands.{Command, equation, merge, resolve, line_limit, through, text_after, numbers_after, as_constant, as_variable, as_concatenation, as_known, as_equation, as_merge, as_resolve, resolve_by, by_letter, command}
-use Rattle.commands.specs.Working.Readings.{number_is, guard_is, listing_is, count_of, Listed}
+use Rattle.commands.specs.Commands.{Command, resolve, line_limit, through, text_after, numbers_after, as_constant, as_variable, as_concatenation, as_known, as_equation, as_merge, as_resolve, resolve_by, by_letter, command}
+use Rattle.commands.specs.Working.Readings.{Listed}
 use Rattle.commands.proofs.Listings.{tail_is}
 use Rattle.commands.proofs.Numbering.{field_is, last_field, next_field}
 
 -- a text
-pub text-none : (l m : List ℕ) → length l ≡ 0 → Listed (text_after l) listing.Bad m
+pub text-none : (l m : List ℕ) → length l ≡ 0 → Listed (text_after l) None m
 unfolding text_after
 text-none [] m e = record { says = refl; fits = omega arith }
 text-none (b ∷ l) m e = absurd (omega arith)
 
 module _ (l m : List ℕ) (z : length l ≡ 0 → ⊥) where
-  pub text_odd : (get_or l 0 0 ≡ 32 → ⊥) → Listed (text_after l) listing.Bad m
+  pub text_odd : (get_or l 0 0 ≡ 32 → ⊥) → Listed (text_after l) None m
   unfolding text_after
   text_odd e = record { says = sym (split l z e); fits = omega arith }
     where
@@ -41,68 +35,13 @@ module _ (l m : List ℕ) (z : length l ≡ 0 → ⊥) where
       split [] q k = absurd (q refl)
       split (b ∷ v) q k = rw (ne_eqb b 32 k, text_after)
 
-  pub text_is : (r : Listing) → get_or l 0 0 ≡ 32 → Listed (decode (take (length l - 1) (drop 1 l))) r m → Listed (text_after l) r m
+  pub text_is : (r : RustOption ℕ) → get_or l 0 0 ≡ 32 → Listed (decode (take (length l - 1) (drop 1 l))) r m → Listed (text_after l) r m
   unfolding text_after
   text_is r e f = record { says = f.says ∙ ap decode (tail_is l) ∙ split l z e; fits = f.fits }
     where
       split : (v : List ℕ) → (length v ≡ 0 → ⊥) → get_or v 0 0 ≡ 32 → decode (drop 1 v) ≡ text_after v
       split [] q k = absurd (q refl)
       split (b ∷ v) q k = rw (eq-eqb b 32 k, text_after)
-
--- what is made of a list that was read
-module _ (f : List ℕ → Option Command) (o : Option (List ℕ)) (r : Listing) (l : List ℕ) (h : Listed o r l) where
-  pub listed-bad : r ≡ listing.Bad → none ≡ through f o
-  listed-bad i = ap (through f) (ap (λ (q : Listing). listing_is q l) (sym i) ∙ h.says)
-
-  pub listed-count : (n : ℕ) → r ≡ listing.Count n → f (take n l) ≡ through f o
-  listed-count n i = ap (through f) (ap (λ (q : Listing). listing_is q l) (sym i) ∙ h.says)
-
-  pub count-within : (n : ℕ) → r ≡ listing.Count n → n ≤ length l
-  count-within n i = let p = h.fits in let q : count_of r ≡ n = ap count_of i in omega arith
-
-not-two : (l : List ℕ) → (length l ≡ 2 → ⊥) → none ≡ as_equation l
-not-two [] z = refl
-not-two (a ∷ []) z = refl
-not-two (a ∷ b ∷ []) z = absurd (z refl)
-not-two (a ∷ b ∷ c ∷ l) z = refl
-
-not_three : (l : List ℕ) → (length l ≡ 3 → ⊥) → none ≡ as_merge l
-not_three [] z = refl
-not_three (a ∷ []) z = refl
-not_three (a ∷ b ∷ []) z = refl
-not_three (a ∷ b ∷ c ∷ []) z = absurd (z refl)
-not_three (a ∷ b ∷ c ∷ d ∷ l) z = refl
-
-first_two : (l : List ℕ) → 2 ≤ length l → some (equation (get_or l 0 0) (get_or l 1 0)) ≡ as_equation (take 2 l)
-first_two [] h = absurd (omega arith)
-first_two (a ∷ []) h = absurd (omega arith)
-first_two (a ∷ b ∷ l) h = refl
-
-first_three : (l : List ℕ) → 3 ≤ length l → some (merge (get_or l 0 0) (get_or l 1 0) (get_or l 2 0)) ≡ as_merge (take 3 l)
-first_three [] h = absurd (omega arith)
-first_three (a ∷ []) h = absurd (omega arith)
-first_three (a ∷ b ∷ []) h = absurd (omega arith)
-first_three (a ∷ b ∷ c ∷ l) h = refl
-
-module _ (o : Option (List ℕ)) (r : Listing) (l : List ℕ) (h : Listed o r l) (n : ℕ) (i : r ≡ listing.Count n) where
-  long : length (take n l) ≡ n
-  long = length-take-le n l (count-within as_equation o r l h n i)
-
-  pub equation-not : (n ≡ 2 → ⊥) → none ≡ through as_equation o
-  equation-not z = not-two (take n l) (λ e. z (sym long ∙ e)) ∙ listed-count as_equation o r l h n i
-
-  pub equation-is : n ≡ 2 → some (equation (get_or l 0 0) (get_or l 1 0)) ≡ through as_equation o
-  equation-is e =
-      let k = count-within as_equation o r l h n i in
-      first_two l (omega arith) ∙ ap (λ (j : ℕ). as_equation (take j l)) (sym e) ∙ listed-count as_equation o r l h n i
-
-  pub merge-not : (n ≡ 3 → ⊥) → none ≡ through as_merge o
-  merge-not z = not_three (take n l) (λ e. z (sym long ∙ e)) ∙ listed-count as_merge o r l h n i
-
-  pub merge-is : n ≡ 3 → some (merge (get_or l 0 0) (get_or l 1 0) (get_or l 2 0)) ≡ through as_merge o
-  merge-is e =
-      let k = count-within as_equation o r l h n i in
-      first_three l (omega arith) ∙ ap (λ (j : ℕ). as_merge (take j l)) (sym e) ∙ listed-count as_merge o r l h n i
 
 -- a term and a guard
 pub resolve-none : (l : List ℕ) → length l ≡ 0 → none ≡ through as_resolve (fields l)
@@ -148,22 +87,20 @@ module _ (l : List ℕ) (z : length l ≡ 0 → ⊥) where
         both-fields = spaced ∙ ap as_resolve (twice
             ∙ ap (λ (ws : List (List ℕ)). take (e - 1) (drop 1 l) ∷ ws) (last_field l (e + 1) f q k))
 
-        module _ (r : Number) (i : number_is r ≡ number_below word_limit (take (e - 1) (drop 1 l))) where
-          pub resolve-bad : r ≡ number.Bad → none ≡ through as_resolve (fields l)
-          resolve-bad a = sym (both-fields
-              ∙ ap (λ (o : Option ℕ). resolve_by o (guard_of (take (f - (e + 1)) (drop (e + 1) l)))) (sym i ∙ ap number_is a))
+        pub resolve-bad : none ≡ number_below word_limit (take (e - 1) (drop 1 l)) → none ≡ through as_resolve (fields l)
+        resolve-bad i = sym (both-fields ∙ ap (λ (o : Option ℕ). resolve_by o (guard_of (take (f - (e + 1)) (drop (e + 1) l)))) (sym i))
 
-          module _ (t : ℕ) (a : r ≡ number.Fits t) (u : Guard) (j : guard_is u ≡ guard_of (take (f - (e + 1)) (drop (e + 1) l))) where
-            termed : through as_resolve (fields l) ≡ resolve_by (some t) (guard_is u)
-            termed = both-fields
-                ∙ ap (λ (o : Option ℕ). resolve_by o (guard_of (take (f - (e + 1)) (drop (e + 1) l)))) (sym i ∙ ap number_is a)
-                ∙ ap (λ (o : Option ℤ). resolve_by (some t) o) (sym j)
+        module _ (t : ℕ) (i : some t ≡ number_below word_limit (take (e - 1) (drop 1 l))) (o : Option ℤ) (j : o ≡ guard_of (take (f - (e + 1)) (drop (e + 1) l))) where
+          termed : through as_resolve (fields l) ≡ resolve_by (some t) o
+          termed = both-fields
+              ∙ ap (λ (o : Option ℕ). resolve_by o (guard_of (take (f - (e + 1)) (drop (e + 1) l)))) (sym i)
+              ∙ ap (λ (o : Option ℤ). resolve_by (some t) o) (sym j)
 
-            pub resolve-free : u ≡ guard.Bad → none ≡ through as_resolve (fields l)
-            resolve-free b = sym (termed ∙ ap (λ (v : Guard). resolve_by (some t) (guard_is v)) b)
+          pub resolve-free : o ≡ none → none ≡ through as_resolve (fields l)
+          resolve-free b = sym (termed ∙ ap (resolve_by (some t)) b)
 
-            pub resolve-is : (g : ℤ) → u ≡ guard.Fits g → SFits w32 g → some (resolve t (to_z w32 (of_z w32 g))) ≡ through as_resolve (fields l)
-            resolve-is g b n = sym (termed ∙ ap (λ (v : Guard). resolve_by (some t) (guard_is v)) b ∙ ap (λ (z : ℤ). some (resolve t z)) (sym (to_z-of_z n)))
+          pub resolve-is : (g : ℤ) → o ≡ some g → SFits w32 g → some (resolve t (to_z w32 (of_z w32 g))) ≡ through as_resolve (fields l)
+          resolve-is g b n = sym (termed ∙ ap (resolve_by (some t)) b ∙ ap (λ (z : ℤ). some (resolve t z)) (sym (to_z-of_z n)))
 
 -- by the letter
 module _ (k : ℕ) (l : List ℕ) (o : Option Command) where

@@ -1,8 +1,8 @@
 -- Document 01, 'Program `labelstep`': what a line of standard input asks for.
-use Rattle.std.specs.Prelude.{true, false, List, [], ◌∷◌, ℕ, length, take, eqb, leb, ℤ}
+use Rattle.std.specs.Prelude.{true, false, List, [], ◌∷◌, ℕ, length, take, eqb, leb, ℤ, Option as RustOption, Some, None}
 use Rattle.std.proofs.Math.Option.{Option, none, some}
-use Rattle.commands.specs.declared.Parsed.{Parsed}
-use Rattle.commands.specs.declared.Parsed.TheVariants as parsed
+use Rattle.commands.specs.declared.Command.{Command as Parsed}
+use Rattle.commands.specs.declared.Command.TheVariants as parsed
 use Rattle.commands.specs.Texts.{space, fields, numbers, number_below, word_limit, guard_of}
 use Rattle.commands.specs.Utf8.{decode}
 
@@ -101,12 +101,12 @@ command [] = none
 command (k ∷ l) = elim (leb (length (k ∷ l)) line_limit) [ true ↦ by_letter k l | false ↦ none ]
 
 -- a command; a text, parts and a known list are the first words of a list
-abbrev pub parsed_is : Parsed → List ℕ → Option Command
-parsed_is (parsed.Constant n) l = some (constant (take n l))
-parsed_is (parsed.Variable n) l = some (variable (take n l))
-parsed_is (parsed.Concatenation n) l = some (concatenation (take n l))
-parsed_is (parsed.Equation t u) l = some (equation t u)
-parsed_is (parsed.Merge t u n) l = some (merge t u n)
-parsed_is (parsed.Known n) l = some (known (take n l))
-parsed_is (parsed.Resolve e g) l = some (resolve e g)
-parsed_is parsed.Bad l = none
+abbrev pub parsed_is : RustOption Parsed → List ℕ → Option Command
+parsed_is (Some (parsed.Constant n)) l = some (constant (take n l))
+parsed_is (Some (parsed.Variable n)) l = some (variable (take n l))
+parsed_is (Some (parsed.Concatenation n)) l = some (concatenation (take n l))
+parsed_is (Some (parsed.Equation t u)) l = some (equation t u)
+parsed_is (Some (parsed.Merge t u n)) l = some (merge t u n)
+parsed_is (Some (parsed.Known n)) l = some (known (take n l))
+parsed_is (Some (parsed.Resolve e g)) l = some (resolve e g)
+parsed_is None l = none

@@ -9,37 +9,9 @@ pub mod utf8;
 // The longest line that is a command, in bytes.
 pub const LINE_LIMIT: usize = 1024;
 
-// A decimal number that fits, or none.
-#[derive(Clone, Copy)]
-pub enum Number {
-    Fits(u32),
-    Bad,
-}
-
-// A guard, or none.
-#[derive(Clone, Copy)]
-pub enum Guard {
-    Fits(i32),
-    Bad,
-}
-
-// Numbers or characters, counted, at the start of a list; or none.
-#[derive(Clone, Copy)]
-pub enum Listing {
-    Count(usize),
-    Bad,
-}
-
-// A character: how many bytes it has, and its number; or none.
-#[derive(Clone, Copy)]
-pub enum Char {
-    Is(usize, u32),
-    Bad,
-}
-
 // A command: a text, parts and a known list are counted, and stand at the start of a list.
 #[derive(Clone, Copy)]
-pub enum Parsed {
+pub enum Command {
     Constant(usize),
     Variable(usize),
     Concatenation(usize),
@@ -47,5 +19,4 @@ pub enum Parsed {
     Merge(u32, u32, u32),
     Known(usize),
     Resolve(u32, i32),
-    Bad,
 }

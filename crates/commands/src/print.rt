@@ -13,99 +13,57 @@ fn put_digits(out: &mut [u8], at: usize, n: usize, x: u64) -> usize
         return at;
     }
     if x < 10 {
-        out[at] = 48 + x as u8;
+        out[at] = b'0' + x as u8;
         return at + 1;
     }
     let e = put_digits(out, at, n - 1, x / 10);
-    out[e] = 48 + (x % 10) as u8;
+    out[e] = b'0' + (x % 10) as u8;
     e + 1
-}
-
-fn number_into(out: &mut [u8], x: u64) -> usize
-    requires { 24 ≤ length out.old }
-    ensures { Piece out.new (number_text x) result }
-{
-    out[0] = 32;
-    put_digits(out, 1, 20, x)
 }
 
 // A number after a space.
 pub fn put_number(out: &mut [u8; 24], x: u64) -> usize
     ensures { Piece out.new (number_text x) result }
 {
-    number_into(out, x)
+    out[0] = b' ';
+    put_digits(out, 1, 20, x)
 }
 
 fn reason_letter(kind: u32) -> u8
     ensures { result ≡ reason_letter kind }
 {
-    if kind == 1 {
-        return 97;
-    }
-    105
-}
-
-fn reason_into(out: &mut [u8], kind: u32, number: u32) -> usize
-    requires { 24 ≤ length out.old }
-    ensures { Piece out.new (reason_text (kind, number)) result }
-{
-    out[0] = 32;
-    out[1] = reason_letter(kind);
-    put_digits(out, 2, 20, number as u64)
+    if kind == 1 { b'a' } else { b'i' }
 }
 
 // A reason after a space.
 pub fn put_reason(out: &mut [u8; 24], kind: u32, number: u32) -> usize
     ensures { Piece out.new (reason_text (kind, number)) result }
 {
-    reason_into(out, kind, number)
-}
-
-fn is_below(g: i32) -> bool
-    ensures { result ≡ is_below g }
-{
-    g < 0
-}
-
-// A guard without its sign.
-fn size_of(g: i32) -> u64
-    ensures { result ≡ nat_abs g }
-{
-    if is_below(g) {
-        return (-1 - g) as u64 + 1;
-    }
-    g as u64
-}
-
-fn guard_into(out: &mut [u8], g: i32) -> usize
-    requires { 24 ≤ length out.old }
-    ensures { Piece out.new (guard_text g) result }
-{
-    out[0] = 32;
-    if is_below(g) {
-        out[1] = 45;
-        return put_digits(out, 2, 20, size_of(g));
-    }
-    put_digits(out, 1, 20, size_of(g))
+    out[0] = b' ';
+    out[1] = reason_letter(kind);
+    put_digits(out, 2, 20, u64::from(number))
 }
 
 // A guard after a space.
 pub fn put_guard(out: &mut [u8; 24], g: i32) -> usize
     ensures { Piece out.new (guard_text g) result }
 {
-    guard_into(out, g)
+    let size = u64::from(g.unsigned_abs());
+    out[0] = b' ';
+    if g < 0 {
+        out[1] = b'-';
+        put_digits(out, 2, 20, size)
+    } else {
+        put_digits(out, 1, 20, size)
+    }
 }
 
 fn put_bytes(out: &mut [u8], w: &[u8]) -> usize
     requires { length w.now ≤ length out.old }
     ensures { Piece out.new w.now result }
 {
-    let mut i: usize = 0;
-    while i < w.len() {
-        out[i] = w[i];
-        i += 1;
-    }
-    i
+    out[..w.len()].copy_from_slice(w);
+    w.len()
 }
 
 // The word of an answer: 0 done, 1 saturated, 2 conflict, 3 propagate, 4 split, 5 unexpanded, 6 refused, and any other bad.

@@ -1,21 +1,22 @@
 -- What the call for every empty part promises.
-use Rattle.std.specs.Prelude.{◌≡◌, List, ℕ}
+use Rattle.std.specs.Prelude.{◌≡◌, List, ℕ, Result, Ok, Err}
 use Rattle.records.specs.declared.State.{State}
+use Rattle.records.specs.declared.refusal.Refusal.{Refusal}
+use Rattle.records.specs.Refusal.{number}
 use Rattle.records.specs.Store.{Store, Out, ok, stop}
 use Rattle.records.specs.View.{Lent, store_of}
 use Rattle.records.specs.Calls.{writes_nothing}
 use Rattle.normalize.specs.Calls.{first_words, list_call, PublicList}
 use Rattle.wordeq.specs.Calls.{equal_arguments}
 use Rattle.empties.specs.declared.Empties.{Empties}
-use Rattle.empties.specs.declared.Empties.TheVariants as empties
 use Rattle.empties.specs.Empties.{Parts, empty_parts}
 use Rattle.empties.specs.Meaning.{Becomes}
 use Rattle.empties.specs.Repeats.{Repeats}
 
 -- the answer: the variables are the first words of the list's slice k
-abbrev pub listed : Empties → Lent → List ℕ → Out Parts
-listed (empties.Parts c e n f) m k = ok (store_of m c) (record { empty = e; listed = first_words k n; link = f })
-listed (empties.Refused j) m k = stop j
+abbrev pub listed : Result Empties Refusal → Lent → List ℕ → Out Parts
+listed (Ok x) m k = ok (store_of m x.state) (record { empty = x.empty; listed = first_words k x.listed; link = x.link })
+listed (Err e) m k = stop (number e)
 
 -- its answer, with every refusal; where 1 to 5 do not refuse, it is what repeated calls give; and what it is worth: if the sides have equal
 -- words, each listed variable has the word of ""

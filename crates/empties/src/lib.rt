@@ -4,46 +4,44 @@
 ghost use Rattle.std.specs.Prelude.{◌≡◌, true, [], ◌∷◌, ◌≤◌, ◌<◌, length, take};
 ghost use Rattle.records.specs.Lists.{all, any};
 ghost use Rattle.records.specs.Store.{is_string, same_class};
-ghost use Rattle.records.specs.View.{store_of, across, read_in, term_limit, term_words, changing, lent};
+ghost use Rattle.records.specs.View.{store_of, across, read_in, changing, lent};
 ghost use Rattle.records.specs.Rules.{list_limit, is_list};
 ghost use Rattle.records.specs.Calls.{Writes, ◌into◌};
-ghost use Rattle.records.specs.Working.Doing.{Does, CutRefused};
+ghost use Rattle.records.specs.Working.Doing.{Does};
 ghost use Rattle.records.specs.Working.Audited.{Ready};
 ghost use Rattle.sides.specs.Working.Results.{BothLists};
 ghost use Rattle.sides.specs.Working.Stripping.{Readable};
 ghost use Rattle.empties.specs.Empties.{unmet, emptied, sides, empty_parts};
 ghost use Rattle.empties.specs.Working.Listing.{Starts, tried};
-ghost use Rattle.empties.specs.Working.Cuts.{unlisted};
 ghost use Rattle.empties.specs.Calls.{listed, PublicEmpties};
 
-use records::index::cut_unchecked;
-use records::{LIST_LIMIT, Made, State, make};
+use records::index::cut_refused_unchecked;
+use records::{LIST_LIMIT, Refusal, State, make};
 use sides::stripping;
 use wordeq::{propagate, resolving};
 
-// The answer, with the new counts.
+// The answer: the new counts, the number of "", how many variables are listed, and the link flag.
 #[derive(Clone, Copy)]
-pub enum Empties {
-    // the number of "", how many variables are listed, the link flag
-    Parts(records::State, u32, usize, bool),
-    Refused(u32),
+pub struct Empties {
+    pub state: State,
+    pub empty: u32,
+    pub listed: usize,
+    pub link: bool,
 }
 
 // Whether a string term is of the class of "" or of a variable listed before.
 fn is_met(terms: &[u32], chars: &[u32], c: State, v: u32, e: u32, met: &[u32]) -> bool
     requires readable { Readable terms.now chars.now c }
-    requires met_value { all (is_string (read_in terms.now chars.now c)) (v ∷ e ∷ met.now) ≡ true }
+    requires strings { all (is_string (read_in terms.now chars.now c)) (v ∷ e ∷ met.now) ≡ true }
     ensures { result ≡ any (same_class (read_in terms.now chars.now c) v) (e ∷ met.now) }
 {
     if stripping::same_class_unchecked(terms, chars, c, v, e) {
         return true;
     }
-    let mut i: usize = 0;
-    while i < met.len() {
-        if stripping::same_class_unchecked(terms, chars, c, v, met[i]) {
+    for &m in met {
+        if stripping::same_class_unchecked(terms, chars, c, v, m) {
             return true;
         }
-        i += 1;
     }
     false
 }
@@ -59,15 +57,16 @@ fn put_unmet(
     n: usize,
 ) -> usize
     requires readable { Readable terms.now chars.now c }
-    requires list_value { all (is_string (read_in terms.now chars.now c)) (v ∷ e ∷ take n list.old) ≡ true }
+    requires strings { all (is_string (read_in terms.now chars.now c)) (v ∷ e ∷ take n list.old) ≡ true }
     requires n_in_bounds { n < length list.old }
     ensures { Starts list.new result (tried (read_in terms.now chars.now c) e (take n list.old) v) }
 {
     if is_met(terms, chars, c, v, e, &list[..n]) {
-        return n;
+        n
+    } else {
+        list[n] = v;
+        n + 1
     }
-    list[n] = v;
-    n + 1
 }
 
 // The variables of a side that are not of the class of e, the first of each class, as the first words of `list`.
@@ -80,15 +79,13 @@ fn list_unmet(
     list: &mut [u32],
 ) -> usize
     requires readable { Readable terms.now chars.now c }
-    requires side_value { all (is_string (read_in terms.now chars.now c)) (e ∷ side.now) ≡ true }
+    requires strings { all (is_string (read_in terms.now chars.now c)) (e ∷ side.now) ≡ true }
     requires side_in_bounds { length side.now ≤ length list.old }
     ensures { Starts list.new result (unmet (read_in terms.now chars.now c) (e ∷ []) side.now) }
 {
     let mut n: usize = 0;
-    let mut i: usize = 0;
-    while i < side.len() {
-        n = put_unmet(terms, chars, c, side[i], e, list, n);
-        i += 1;
+    for &v in side {
+        n = put_unmet(terms, chars, c, v, e, list, n);
     }
     n
 }
@@ -103,21 +100,20 @@ fn empties_unchecked(
     c: State,
     side: &[u32],
     list: &mut [u32],
-) -> Empties
+) -> Result<Empties, Refusal>
     requires ready { Ready (lent terms.old cells.now chars.old reasons.now keys.now) c }
-    requires side_value { is_list (store_of (lent terms.old cells.now chars.old reasons.now keys.now) c) side.now ≡ true }
+    requires side_is_list { is_list (store_of (lent terms.old cells.now chars.old reasons.now keys.now) c) side.now ≡ true }
     requires list_limit_in_bounds { list_limit ≤ length list.old }
     ensures { Does (emptied side.now) (across (changing terms) cells (changing chars) reasons keys) c (listed result into changing list) }
 {
-    let word: [u32; 0] = [];
-    let empty = make::make_constant_unchecked(terms, cells, chars, reasons, keys, c, &word);
-    match empty {
-        Made::Term(t, d) => {
-            let n = list_unmet(terms, chars, d, side, t, list);
-            Empties::Parts(d, t, n, 0 < n)
-        }
-        Made::Refused(k) => Empties::Refused(k),
-    }
+    let (empty, state) = make::make_constant_unchecked(terms, cells, chars, reasons, keys, c, &[])?;
+    let listed = list_unmet(terms, chars, state, side, empty, list);
+    Ok(Empties {
+        state,
+        empty,
+        listed,
+        link: 0 < listed,
+    })
 }
 
 // One of two flattened lists empty, the other two or more variables; other lists give none, and nothing is made.
@@ -131,19 +127,24 @@ fn sides_unchecked(
     lhs: &[u32],
     rhs: &[u32],
     list: &mut [u32],
-) -> Empties
+) -> Result<Empties, Refusal>
     requires ready { Ready (lent terms.old cells.now chars.old reasons.now keys.now) c }
     requires both_lists { BothLists (store_of (lent terms.old cells.now chars.old reasons.now keys.now) c) lhs.now rhs.now }
     requires list_limit_in_bounds { list_limit ≤ length list.old }
     ensures { Does (sides lhs.now rhs.now) (across (changing terms) cells (changing chars) reasons keys) c (listed result into changing list) }
 {
     if propagate::is_emptied_unchecked(terms, c, lhs, rhs) {
-        return empties_unchecked(terms, cells, chars, reasons, keys, c, rhs, list);
+        empties_unchecked(terms, cells, chars, reasons, keys, c, rhs, list)
+    } else if propagate::is_emptied_unchecked(terms, c, rhs, lhs) {
+        empties_unchecked(terms, cells, chars, reasons, keys, c, lhs, list)
+    } else {
+        Ok(Empties {
+            state: c,
+            empty: 0,
+            listed: 0,
+            link: false,
+        })
     }
-    if propagate::is_emptied_unchecked(terms, c, rhs, lhs) {
-        return empties_unchecked(terms, cells, chars, reasons, keys, c, lhs, list);
-    }
-    Empties::Parts(c, 0, 0, false)
 }
 
 // Both lists flattened, left first, and their empty parts listed.
@@ -157,7 +158,7 @@ pub fn empty_parts_unchecked(
     lhs: &[u32],
     rhs: &[u32],
     list: &mut [u32],
-) -> Empties
+) -> Result<Empties, Refusal>
     requires ready { Ready (lent terms.old cells.now chars.old reasons.now keys.now) c }
     requires both_lists { BothLists (store_of (lent terms.old cells.now chars.old reasons.now keys.now) c) lhs.now rhs.now }
     requires list_limit_in_bounds { list_limit ≤ length list.old }
@@ -166,12 +167,12 @@ pub fn empty_parts_unchecked(
     let mut left: [u32; 1024] = [0; 1024];
     let n = resolving::flatten_list_unchecked(terms, cells, c, lhs, &mut left);
     if LIST_LIMIT < n {
-        return Empties::Refused(6);
+        return Err(Refusal::List);
     }
     let mut right: [u32; 1024] = [0; 1024];
     let k = resolving::flatten_list_unchecked(terms, cells, c, rhs, &mut right);
     if LIST_LIMIT < k {
-        return Empties::Refused(6);
+        return Err(Refusal::List);
     }
     sides_unchecked(
         terms,
@@ -197,34 +198,16 @@ pub fn empty_parts(
     lhs: &[u32],
     rhs: &[u32],
     list: &mut [u32],
-) -> Empties
+) -> Result<Empties, Refusal>
     ensures { Writes (PublicEmpties lhs.now rhs.now) (across (changing terms) cells (changing chars) reasons keys) (changing list) c (listed result) }
 {
     if list.len() < LIST_LIMIT {
-        return Empties::Refused(1);
+        return Err(Refusal::Sizes);
     }
-    let k = records::audit(terms, cells, chars, reasons, keys, c);
-    if k != 0 {
-        return Empties::Refused(k);
-    }
+    records::audit(terms, cells, chars, reasons, keys, c)?;
     if !wordeq::are_lists(terms, c, lhs, rhs) {
-        return Empties::Refused(5);
+        return Err(Refusal::Argument);
     }
-    let o = empty_parts_unchecked(terms, cells, chars, reasons, keys, c, lhs, rhs, list);
-    cut_unlisted(terms, c.terms, o)
-}
-
-// After a refusal the index names no term that was made on the way.
-fn cut_unlisted(terms: &mut [u32], n: usize, o: Empties) -> Empties
-    requires fact_1 { n ≤ term_limit }
-    requires fact_2 { term_words n ≤ length terms.old }
-    ensures { CutRefused unlisted terms.old terms.new n o result }
-{
-    match o {
-        Empties::Parts(d, t, k, f) => Empties::Parts(d, t, k, f),
-        Empties::Refused(k) => {
-            cut_unchecked(terms, n);
-            Empties::Refused(k)
-        }
-    }
+    let parts = empty_parts_unchecked(terms, cells, chars, reasons, keys, c, lhs, rhs, list);
+    cut_refused_unchecked(terms, c.terms, parts)
 }

@@ -1,20 +1,20 @@
 -- What the public calls of find and explain promise.
-use Rattle.std.specs.Prelude.{◌≡◌, ℕ}
+use Rattle.std.specs.Prelude.{◌≡◌, ℕ, Result, Ok, Err}
 use Rattle.records.specs.declared.State.{State}
+use Rattle.records.specs.declared.refusal.Refusal.{Refusal}
+use Rattle.records.specs.Refusal.{number}
 use Rattle.records.specs.Lists.{Every}
 use Rattle.records.specs.Store.{Store, Out, ok, stop}
 use Rattle.records.specs.View.{Lent, store_of}
 use Rattle.records.specs.Make.{EachOnce}
 use Rattle.records.specs.Calls.{Public, call, full_alone}
-use Rattle.engine.specs.declared.Found.{Found}
-use Rattle.engine.specs.declared.Found.TheVariants.{Root, Refused}
 use Rattle.engine.specs.Explain.{explain, explain_arguments}
 use Rattle.engine.specs.Meaning.{Explains, added_to, Labels}
 
 -- find's answer; the store is as it was
-abbrev pub found : Found → Lent → State → Out ℕ
-found (Root t) m c = ok (store_of m c) t
-found (Refused k) m c = stop k
+abbrev pub found : Result ℕ Refusal → Lent → State → Out ℕ
+found (Ok t) m c = ok (store_of m c) t
+found (Err e) m c = stop (number e)
 
 -- explain's answer, and what it is worth: under the reasons at exit and the definitional merges the two terms have equal words. The
 -- reasons at exit are those at entry and then reasons that the list lacked, each once; every one added labels an edge of the store; once

@@ -11,30 +11,9 @@ ghost use Rattle.engine.specs.Working.Seen.{place, seen_at, Noted};
 ghost use Rattle.engine.specs.Working.Walks.{Walkable, Together, Edge, Walks, Gives, Explainable, Plainly, PlainEdge, PlainPair, PlainPath, Along, PairExplained};
 ghost use Rattle.engine.specs.Calls.{found, PublicExplain};
 
-use records::{Added, State, classes, fields, put, rules};
+use records::{Label, Refusal, State, classes, fields, put, rules};
 
 mod listing;
-
-// How far a walk came: 0 and the count of reasons, or the refusal.
-#[derive(Clone, Copy)]
-pub struct Walked {
-    pub code: u32,
-    pub count: usize,
-}
-
-// What a walk without a table came to: how far it came, or that it met a congruence edge, whose pairs need the table.
-#[derive(Clone, Copy)]
-enum Plain {
-    Ended(Walked),
-    Congruence,
-}
-
-// What find answers.
-#[derive(Clone, Copy)]
-pub enum Found {
-    Root(u32),
-    Refused(u32),
-}
 
 // The root of a term's class.
 pub fn find(
@@ -45,28 +24,24 @@ pub fn find(
     keys: &[u32],
     c: State,
     t: u32,
-) -> Found
+) -> Result<u32, Refusal>
     ensures { Answers (find_arguments t) (find t) (across terms cells chars reasons keys) c (λ m. found result m c) }
 {
-    let k = records::audit(terms, cells, chars, reasons, keys, c);
-    if k != 0 {
-        return Found::Refused(k);
-    }
+    records::audit(terms, cells, chars, reasons, keys, c)?;
     if !rules::is_string(terms, c.terms, t) {
-        return Found::Refused(5);
+        return Err(Refusal::Argument);
     }
-    let r = classes::root_unchecked(terms, c.terms, t);
-    Found::Root(r)
+    let root = classes::root_unchecked(terms, c.terms, t);
+    Ok(root)
 }
 
 // The place of the pair {a, b} in the table: pairs whose higher number is lower come first.
 fn place(a: u32, b: u32) -> usize
     ensures { result ≡ place a b }
 {
-    if a < b {
-        return (b as usize) * ((b as usize) + 1) / 2 + (a as usize);
-    }
-    (a as usize) * ((a as usize) + 1) / 2 + (b as usize)
+    let high = a.max(b) as usize;
+    let low = a.min(b) as usize;
+    high * (high + 1) / 2 + low
 }
 
 // Whether the pair of the place k was seen.
@@ -74,9 +49,7 @@ fn is_seen(table: &[u32], k: usize) -> bool
     requires { k < 32 * length table.now }
     ensures { result ≡ seen_at table.now k }
 {
-    let w = table[k / 32];
-    let j = k % 32;
-    (w >> j) % 2 == 1
+    (table[k / 32] >> (k % 32)) % 2 == 1
 }
 
 // Notes that the pair of the place k was seen, which it was not before.
@@ -84,13 +57,10 @@ fn note_seen(table: &mut [u32], k: usize)
     requires { (k < 32 * length table.old) × (seen_at table.old k ≡ false) }
     ensures { Noted table.old table.new k }
 {
-    let i = k / 32;
-    let j = k % 32;
-    let w = table[i];
-    table[i] = w + (1 << j);
+    table[k / 32] += 1 << (k % 32);
 }
 
-// One reason more, that of an edge, unless the list has it.
+// One reason more, that of an edge, unless the list has it: the count of reasons then.
 fn give(
     reasons: &mut [u32],
     count: usize,
@@ -98,32 +68,23 @@ fn give(
     value: u32,
     slot: usize,
     places: &mut [u32],
-) -> Walked
+) -> Result<usize, Refusal>
     requires { count ≤ reason_room reasons.old }
     ensures { Gives reasons.old reasons.new places.old places.new count kind value slot result }
 {
     if listing::is_listed(reasons, count, places, slot, kind, value) {
-        return Walked {
-            code: 0,
-            count: count,
-        };
-    }
-    if put::push_reason_unchecked(reasons, count, kind, value) {
-        return Walked {
-            code: 0,
-            count: count + 1,
-        };
-    }
-    Walked {
-        code: 7,
-        count: count,
+        Ok(count)
+    } else if put::push_reason_unchecked(reasons, count, kind, value) {
+        Ok(count + 1)
+    } else {
+        Err(Refusal::Reasons)
     }
 }
 
-// Walks a up to the nearest shared ancestor, then b: each edge's reasons, in that order. A pair seen before is skipped. `table` has
-// from its start a bit for each pair seen, and from its end a word for each term, where the reason of the term's edge was found last
-// (see is_listed). It is one slice, and of the counts a walk is handed those that it reads, because a walk within a walk keeps what it
-// was handed on the stack.
+// Walks a up to the nearest shared ancestor, then b: each edge's reasons, in that order, and how many there are then. A pair seen before
+// is skipped. `table` has from its start a bit for each pair seen, and from its end a word for each term, where the reason of the term's
+// edge was found last (see is_listed). It is one slice, and of the counts a walk is handed those that it reads, because a walk within a
+// walk keeps what it was handed on the stack.
 #[cycle(expand_edge_explain_rec)]
 fn explain_rec(
     terms: &[u32],
@@ -135,22 +96,16 @@ fn explain_rec(
     table: &mut [u32],
     reasons: &mut [u32],
     count: usize,
-) -> Walked
+) -> Result<usize, Refusal>
     requires { Walkable terms.now cells.now table.old reasons.old n k count (λ s. Together s (a, b)) }
     ensures { Along (Walks (walked (a, b)) (λ s. Together s (a, b))) terms cells (changing table) (changing reasons) n k count result }
 {
     if a == b {
-        return Walked {
-            code: 0,
-            count: count,
-        };
+        return Ok(count);
     }
     let at = place(a, b);
     if is_seen(table, at) {
-        return Walked {
-            code: 0,
-            count: count,
-        };
+        return Ok(count);
     }
     note_seen(table, at);
     let top = classes::nearest_unchecked(terms, n, a, b);
@@ -160,19 +115,12 @@ fn explain_rec(
     loop {
         if x == top {
             if last {
-                return Walked {
-                    code: 0,
-                    count: given,
-                };
+                return Ok(given);
             }
             last = true;
             x = b;
         } else {
-            let r = expand_edge(terms, cells, n, k, x, table, reasons, given);
-            if r.code != 0 {
-                return r;
-            }
-            given = r.count;
+            given = expand_edge(terms, cells, n, k, x, table, reasons, given)?;
             x = fields::forest_parent(terms, x);
         }
     }
@@ -189,46 +137,32 @@ fn expand_edge(
     table: &mut [u32],
     reasons: &mut [u32],
     count: usize,
-) -> Walked
+) -> Result<usize, Refusal>
     requires { Walkable terms.now cells.now table.old reasons.old n k count (λ s. Edge s node) }
     ensures { Along (Walks (edge walked node) (λ s. Edge s node)) terms cells (changing table) (changing reasons) n k count result }
 {
     let kind = fields::label_kind(terms, node);
     let value = fields::label_value(terms, node);
-    let number = node as usize;
-    match kind {
-        1 => give(reasons, count, 1, value, table.len() - 1 - number, table),
-        2 => give(reasons, count, 2, value, table.len() - 1 - number, table),
-        3 => {
+    match Label::try_from(kind) {
+        Ok(Label::Asserted | Label::Interface) => {
+            let slot = table.len() - 1 - node as usize;
+            give(reasons, count, kind, value, slot, table)
+        }
+        Ok(Label::Congruence) => {
             let mut at = value;
             let mut given = count;
             while at != 0 {
                 let s = fields::value(cells, at);
                 let t = fields::other(cells, at);
-                if s == t {
-                    at = fields::next(cells, at);
-                    continue;
+                if s != t {
+                    given = explain_rec(terms, cells, n, k, s, t, table, reasons, given)?;
                 }
-                let r = explain_rec(terms, cells, n, k, s, t, table, reasons, given);
-                if r.code != 0 {
-                    return r;
-                }
-                given = r.count;
                 at = fields::next(cells, at);
             }
-            Walked {
-                code: 0,
-                count: given,
-            }
+            Ok(given)
         }
-        4 => Walked {
-            code: 0,
-            count: count,
-        },
-        _ => Walked {
-            code: 3,
-            count: count,
-        },
+        Ok(Label::Definitional) => Ok(count),
+        Err(_) => Err(Refusal::Classes),
     }
 }
 
@@ -240,27 +174,19 @@ fn explain_tabled(
     a: u32,
     b: u32,
     reasons: &mut [u32],
-) -> Walked
+) -> Result<usize, Refusal>
     requires { (c.terms ≤ 512) × Explainable terms.now cells.now reasons.old c.terms c.cells a b c.reasons }
     ensures { PairExplained terms cells (changing reasons) c a b result }
 {
     let n = c.terms;
     let k = c.cells;
     let count = c.reasons;
-    if n < 32 {
-        let mut table: [u32; 49] = [0; 49];
-        return explain_rec(terms, cells, n, k, a, b, &mut table, reasons, count);
+    match n {
+        0..=31 => explain_rec(terms, cells, n, k, a, b, &mut [0; 49], reasons, count),
+        32..=127 => explain_rec(terms, cells, n, k, a, b, &mut [0; 386], reasons, count),
+        128..=256 => explain_rec(terms, cells, n, k, a, b, &mut [0; 1294], reasons, count),
+        _ => explain_rec(terms, cells, n, k, a, b, &mut [0; 4634], reasons, count),
     }
-    if n < 128 {
-        let mut table: [u32; 386] = [0; 386];
-        return explain_rec(terms, cells, n, k, a, b, &mut table, reasons, count);
-    }
-    if n <= 256 {
-        let mut table: [u32; 1294] = [0; 1294];
-        return explain_rec(terms, cells, n, k, a, b, &mut table, reasons, count);
-    }
-    let mut table: [u32; 4634] = [0; 4634];
-    explain_rec(terms, cells, n, k, a, b, &mut table, reasons, count)
 }
 
 // As give, over the counts by value: a path without congruences has them at hand.
@@ -271,40 +197,42 @@ fn give_plain(
     value: u32,
     slot: usize,
     places: &mut [u32],
-) -> Walked
+) -> Result<usize, Refusal>
     requires { c.reasons ≤ reason_room reasons.old }
     ensures { Gives reasons.old reasons.new places.old places.new c.reasons kind value slot result }
 {
-    let r = give(reasons, c.reasons, kind, value, slot, places);
-    if r.count == c.reasons {
-        return r;
+    let given = give(reasons, c.reasons, kind, value, slot, places)?;
+    if given == c.reasons {
+        return Ok(given);
     }
     let d = c.with_reason_unchecked();
-    Walked {
-        code: 0,
-        count: d.reasons,
-    }
+    Ok(d.reasons)
 }
 
-// As expand_edge, for an edge that leads to no other pair. Any other is left to expand_edge.
-fn plain_edge(terms: &[u32], c: State, node: u32, reasons: &mut [u32], places: &mut [u32]) -> Plain
+// As expand_edge, for an edge that leads to no other pair. Any other is left to expand_edge, which has a table for the pairs: None.
+fn plain_edge(
+    terms: &[u32],
+    c: State,
+    node: u32,
+    reasons: &mut [u32],
+    places: &mut [u32],
+) -> Result<Option<usize>, Refusal>
     requires { c.reasons ≤ reason_room reasons.old }
     ensures { Plainly (PlainEdge terms.now reasons.old reasons.new node c.reasons) reasons.old reasons.new c.reasons result }
 {
     let kind = fields::label_kind(terms, node);
     let value = fields::label_value(terms, node);
-    match kind {
-        1 => Plain::Ended(give_plain(c, reasons, 1, value, node as usize, places)),
-        2 => Plain::Ended(give_plain(c, reasons, 2, value, node as usize, places)),
-        4 => Plain::Ended(Walked {
-            code: 0,
-            count: c.reasons,
-        }),
-        _ => Plain::Congruence,
+    match Label::try_from(kind) {
+        Ok(Label::Asserted | Label::Interface) => {
+            let given = give_plain(c, reasons, kind, value, node as usize, places)?;
+            Ok(Some(given))
+        }
+        Ok(Label::Definitional) => Ok(Some(c.reasons)),
+        _ => Ok(None),
     }
 }
 
-// As explain_rec, for a path without congruence edges. It meets no second pair, so it needs no table.
+// As explain_rec, for a path without congruence edges, which meets no second pair, so it needs no table. None where it meets such an edge.
 fn explain_plain(
     terms: &[u32],
     c: State,
@@ -312,15 +240,12 @@ fn explain_plain(
     b: u32,
     reasons: &mut [u32],
     places: &mut [u32],
-) -> Plain
+) -> Result<Option<usize>, Refusal>
     requires { (c.terms ≤ 512) × PlainPair terms.now reasons.old c.terms a b c.reasons }
     ensures { Plainly (PlainPath terms.now reasons.old reasons.new c.terms a b c.reasons) reasons.old reasons.new c.reasons result }
 {
     if a == b {
-        return Plain::Ended(Walked {
-            code: 0,
-            count: c.reasons,
-        });
+        return Ok(Some(c.reasons));
     }
     let top = classes::nearest_unchecked(terms, c.terms, a, b);
     let mut node = a;
@@ -329,22 +254,16 @@ fn explain_plain(
     loop {
         if node == top {
             if last {
-                return Plain::Ended(Walked {
-                    code: 0,
-                    count: given,
-                });
+                return Ok(Some(given));
             }
             last = true;
             node = b;
         } else {
-            let p = plain_edge(terms, c.with_reasons(given), node, reasons, places);
-            let Plain::Ended(r) = p else {
-                return Plain::Congruence;
+            let Some(count) = plain_edge(terms, c.with_reasons(given), node, reasons, places)?
+            else {
+                return Ok(None);
             };
-            if r.code != 0 {
-                return Plain::Ended(r);
-            }
-            given = r.count;
+            given = count;
             node = fields::forest_parent(terms, node);
         }
     }
@@ -360,16 +279,14 @@ fn explain_pair(
     b: u32,
     reasons: &mut [u32],
     places: &mut [u32],
-) -> Walked
+) -> Result<usize, Refusal>
     requires { (c.terms ≤ 512) × Explainable terms.now cells.now reasons.old c.terms c.cells a b c.reasons }
     ensures { PairExplained terms cells (changing reasons) c a b result }
 {
-    if c.terms < 32 {
-        return explain_tabled(terms, cells, c, a, b, reasons);
-    }
-    let p = explain_plain(terms, c, a, b, reasons, places);
-    if let Plain::Ended(r) = p {
-        return r;
+    if 32 <= c.terms {
+        if let Some(count) = explain_plain(terms, c, a, b, reasons, places)? {
+            return Ok(count);
+        }
     }
     explain_tabled(terms, cells, c, a, b, reasons)
 }
@@ -387,15 +304,12 @@ pub fn explain_unchecked(
     a: u32,
     b: u32,
     places: &mut [u32],
-) -> Added
+) -> Result<State, Refusal>
     requires { (Ready (lent terms.now cells.now chars.now reasons.old keys.now) c) × (explain_arguments a b (store_of (lent terms.now cells.now chars.now reasons.old keys.now) c) ≡ true) }
     ensures { Does (explain a b) (across terms cells chars (changing reasons) keys) c (added result) }
 {
-    let r = explain_pair(terms, cells, c, a, b, reasons, places);
-    if r.code != 0 {
-        return Added::Refused(r.code);
-    }
-    Added::Counts(c.with_reasons(r.count))
+    let count = explain_pair(terms, cells, c, a, b, reasons, places)?;
+    Ok(c.with_reasons(count))
 }
 
 // Whether the explanation of a and b, string terms of one class, has a reason, whatever the list has: it is given a list of its own.
@@ -413,12 +327,10 @@ pub fn is_reasoned_unchecked(
     requires { (Ready (lent terms.now cells.now chars.now reasons.now keys.now) c) × (explain_arguments a b (store_of (lent terms.now cells.now chars.now reasons.now keys.now) c) ≡ true) }
     ensures { result ≡ is_reasoned (store_of (across terms cells chars reasons keys).entry c) a b }
 {
-    let mut own: [u32; 2] = [0; 2];
     let d = c.with_reasons(0);
-    let r = explain_unchecked(terms, cells, chars, &mut own, keys, d, a, b, places);
-    match r {
-        Added::Counts(e) => 0 < e.reasons,
-        Added::Refused(_k) => true,
+    match explain_unchecked(terms, cells, chars, &mut [0; 2], keys, d, a, b, places) {
+        Ok(e) => 0 < e.reasons,
+        Err(_) => true,
     }
 }
 
@@ -436,13 +348,9 @@ fn can_explain(
     requires { Ready (lent terms.now cells.now chars.now reasons.now keys.now) c }
     ensures { result ≡ explain_arguments a b (store_of (across terms cells chars reasons keys).entry c) }
 {
-    if !rules::is_string(terms, c.terms, a) {
-        return false;
-    }
-    if !rules::is_string(terms, c.terms, b) {
-        return false;
-    }
-    classes::root_unchecked(terms, c.terms, a) == classes::root_unchecked(terms, c.terms, b)
+    rules::is_string(terms, c.terms, a)
+        && rules::is_string(terms, c.terms, b)
+        && classes::root_unchecked(terms, c.terms, a) == classes::root_unchecked(terms, c.terms, b)
 }
 
 // The reasons why two terms of one class are equal, after those that are there; one that is there is not added.
@@ -455,16 +363,12 @@ pub fn explain(
     c: State,
     a: u32,
     b: u32,
-) -> Added
+) -> Result<State, Refusal>
     ensures { Promises (PublicExplain a b) (across terms cells chars (changing reasons) keys) c (added result) }
 {
-    let k = records::audit(terms, cells, chars, reasons, keys, c);
-    if k != 0 {
-        return Added::Refused(k);
-    }
+    records::audit(terms, cells, chars, reasons, keys, c)?;
     if !can_explain(terms, cells, chars, reasons, keys, c, a, b) {
-        return Added::Refused(5);
+        return Err(Refusal::Argument);
     }
-    let mut places: [u32; 0] = [];
-    explain_unchecked(terms, cells, chars, reasons, keys, c, a, b, &mut places)
+    explain_unchecked(terms, cells, chars, reasons, keys, c, a, b, &mut [])
 }

@@ -5,19 +5,17 @@ ghost use Rattle.engine.specs.Working.Listing.{Placed, Stands, Looked};
 
 use records::{fields, put};
 
-// The place of a pair among the first n, counted from 1, or 0 where they lack it.
-fn place_of(pairs: &[u32], n: usize, a: u32, b: u32) -> usize
+// The place of a pair among the first n.
+fn place_of(pairs: &[u32], n: usize, a: u32, b: u32) -> Option<usize>
     requires { 2 * n ≤ length pairs.now }
     ensures { Placed pairs.now n a b result }
 {
-    let mut i: usize = 0;
-    while i < n {
+    for i in 0..n {
         if put::pair_is_unchecked(pairs, i, a, b) {
-            return i + 1;
+            return Some(i);
         }
-        i += 1;
     }
-    0
+    None
 }
 
 // Whether the pair stands at a place, counted from 1, among the first n.
@@ -25,17 +23,11 @@ fn is_at(pairs: &[u32], n: usize, place: usize, a: u32, b: u32) -> bool
     requires { 2 * n ≤ length pairs.now }
     ensures { Stands pairs.now n a b result }
 {
-    if place == 0 {
-        return false;
-    }
-    if n < place {
-        return false;
-    }
-    put::pair_is_unchecked(pairs, place - 1, a, b)
+    0 < place && place <= n && put::pair_is_unchecked(pairs, place - 1, a, b)
 }
 
 // Whether the first n reasons have this one. `places` has at `slot`, which an edge has to itself, where the edge's reason was found
-// last. It is believed only where the reason stands there, so the answer is right whatever `places` has, and no promise is made of the word
+// last, counted from 1. It is believed only where the reason stands there, so the answer is right whatever `places` has, and no promise is made of the word
 // at the slot: a program that never wrote it would only search longer.
 pub(crate) fn is_listed(
     reasons: &[u32],
@@ -52,12 +44,11 @@ pub(crate) fn is_listed(
     if is_at(reasons, n, last, kind, value) {
         return true;
     }
-    let p = place_of(reasons, n, kind, value);
-    if p == 0 {
+    let Some(i) = place_of(reasons, n, kind, value) else {
         return false;
-    }
+    };
     if slot < places.len() {
-        places[slot] = p as u32;
+        places[slot] = (i + 1) as u32;
     }
     true
 }

@@ -1,7 +1,9 @@
 -- What the step's functions answer, and what the public call promises.
-use Rattle.std.specs.Prelude.{◌≡◌, List, ℕ, ℤ}
+use Rattle.std.specs.Prelude.{◌≡◌, List, ℕ, ℤ, Result, Ok, Err}
 use Rattle.records.specs.declared.State.{State}
-use Rattle.records.specs.Store.{Store, Out, ok, and_then, give}
+use Rattle.records.specs.declared.refusal.Refusal.{Refusal}
+use Rattle.records.specs.Refusal.{number}
+use Rattle.records.specs.Store.{Store, Out, ok, stop, and_then, give}
 use Rattle.records.specs.View.{Lent, store_of}
 use Rattle.records.specs.Make.{EachOnce}
 use Rattle.normalize.specs.Calls.{list_call, PublicList}
@@ -12,9 +14,10 @@ use Rattle.equation.specs.declared.Outcome.TheVariants.{Answered, Unexpanded}
 use Rattle.equation.specs.Equation.{Stepped, unexpanded, answered, step, step_arguments, GrowsAfterForms, StepSound}
 
 -- wordeq's answer, a Split's atoms being the first words of the list's slice k; or Unexpanded
-abbrev pub stepped : Outcome → Lent → List ℕ → Out Stepped
-stepped (Answered r) m k = and_then (λ x. give (answered x)) (resolved r m k)
-stepped (Unexpanded c) m k = ok (store_of m c) unexpanded
+abbrev pub stepped : Result Outcome Refusal → Lent → List ℕ → Out Stepped
+stepped (Ok (Answered r)) m k = and_then (λ x. give (answered x)) (resolved (Ok r) m k)
+stepped (Ok (Unexpanded c)) m k = ok (store_of m c) unexpanded
+stepped (Err e) m k = stop (number e)
 
 -- demand 3 is a clause of the contract. The reasons at exit are those at entry and then reasons that the list lacked, each once. A Split's
 -- number is wordeq's

@@ -1,3 +1,2 @@
 -- Working definitions: what the contracts of working functions cite. No definition that a public contract cites is built on one of them.
 pub mod Forms
-pub mod Cuts

@@ -2,28 +2,26 @@
 #![tactic(auto)]
 
 ghost use Rattle.std.specs.Prelude.{◌≡◌, true, ◌≤◌, length};
-ghost use Rattle.records.specs.View.{store_of, across, termed, term_limit, term_words, changing, lent};
+ghost use Rattle.records.specs.View.{store_of, across, termed, changing, lent};
 ghost use Rattle.records.specs.Rules.{list_limit, is_list};
 ghost use Rattle.records.specs.Working.Audited.{Ready};
 ghost use Rattle.records.specs.Calls.{Writes, ◌into◌};
-ghost use Rattle.records.specs.Working.Doing.{Does, CutRefused};
+ghost use Rattle.records.specs.Working.Doing.{Does};
 ghost use Rattle.normalize.specs.Normalize.{form_arguments};
 ghost use Rattle.normalize.specs.Working.Pushes.{Candidates};
 ghost use Rattle.sides.specs.Wordeq.{is_guard};
 ghost use Rattle.sides.specs.Working.Results.{BothLists};
 ghost use Rattle.equation.specs.Equation.{step, step_arguments};
 ghost use Rattle.equation.specs.Calls.{stepped, PublicStep};
-ghost use Rattle.equation.specs.Working.Cuts.{unstepped};
 ghost use Rattle.equation.specs.Working.Forms.{incoming_of, resolve_forms, right_form, carried};
 
-use normalize::DeepForm;
 use normalize::deeper::{deep_form_by_unchecked, known_table_unchecked};
-use records::{LIST_LIMIT, State, fields, rules};
+use records::index::cut_refused_unchecked;
+use records::{Kind, LIST_LIMIT, Refusal, State, fields, rules};
 use sides::StepResult;
-use wordeq::cut_unresolved_unchecked;
 use wordeq::resolving::resolve_unchecked;
 
-// wordeq's answer, a refusal among its cases; or Unexpanded, with the new counts.
+// wordeq's answer; or Unexpanded, with the new counts.
 #[derive(Clone, Copy)]
 pub enum Outcome {
     Answered(StepResult),
@@ -53,15 +51,15 @@ fn resolve_forms<'a>(
     guard: i32,
     list: &mut [u32],
     incoming: usize,
-) -> Outcome
+) -> Result<Outcome, Refusal>
     requires ready { Ready (lent terms.old cells.old chars.old reasons.old keys.old) c }
     requires both_lists { BothLists (store_of (lent terms.old cells.old chars.old reasons.old keys.old) c) lhs.now rhs.now }
     requires guard_value { is_guard guard ≡ true }
     requires list_limit_in_bounds { (list_limit ≤ length list.old) × (incoming ≤ c.reasons) }
     ensures { Does (resolve_forms lhs.now rhs.now guard (incoming_of (changing reasons) incoming)) (across (changing terms) (changing cells) (changing chars) (changing reasons) (changing keys)) c (stepped result into changing list) }
 {
-    let o = resolve_unchecked(terms, cells, chars, reasons, keys, c, lhs, rhs, guard, list);
-    Outcome::Answered(carried(o, incoming))
+    let o = resolve_unchecked(terms, cells, chars, reasons, keys, c, lhs, rhs, guard, list)?;
+    Ok(Outcome::Answered(carried(o, incoming)))
 }
 
 // From the deep form of the right side on.
@@ -79,19 +77,20 @@ fn right_form(
     guard: i32,
     list: &mut [u32],
     incoming: usize,
-) -> Outcome
+) -> Result<Outcome, Refusal>
     requires ready { (Ready (lent terms.old cells.old chars.old reasons.old keys.old) c) × (Candidates (store_of (lent terms.old cells.old chars.old reasons.old keys.old) c) known.now table.now) }
-    requires c_value { form_arguments known.now t (store_of (lent terms.old cells.old chars.old reasons.old keys.old) c) ≡ true }
+    requires arguments { form_arguments known.now t (store_of (lent terms.old cells.old chars.old reasons.old keys.old) c) ≡ true }
     requires lhs_value { is_list (store_of (lent terms.old cells.old chars.old reasons.old keys.old) c) lhs.now ≡ true }
     requires guard_value { is_guard guard ≡ true }
     requires list_limit_in_bounds { (list_limit ≤ length list.old) × (incoming ≤ c.reasons) }
     ensures { Does (right_form known.now t guard lhs.now (incoming_of (changing reasons) incoming)) (across (changing terms) (changing cells) (changing chars) (changing reasons) (changing keys)) c (stepped result into changing list) }
 {
     let mut right: [u32; 1024] = [0; 1024];
-    match deep_form_by_unchecked(
+    let (form, both) = deep_form_by_unchecked(
         terms, cells, chars, reasons, keys, c, known, table, t, &mut right,
-    ) {
-        DeepForm::List(n, both) => resolve_forms(
+    )?;
+    match form {
+        Some(n) => resolve_forms(
             terms,
             cells,
             chars,
@@ -104,8 +103,7 @@ fn right_form(
             list,
             incoming,
         ),
-        DeepForm::None(d) => Outcome::Unexpanded(d.with_reasons(incoming)),
-        DeepForm::Refused(k) => Outcome::Answered(StepResult::Refused(k)),
+        None => Ok(Outcome::Unexpanded(both.with_reasons(incoming))),
     }
 }
 
@@ -121,7 +119,7 @@ pub fn step_unchecked(
     e: u32,
     guard: i32,
     list: &mut [u32],
-) -> Outcome
+) -> Result<Outcome, Refusal>
     requires ready { Ready (lent terms.old cells.old chars.old reasons.old keys.old) c }
     requires c_value { step_arguments known.now e guard (store_of (lent terms.old cells.old chars.old reasons.old keys.old) c) ≡ true }
     requires list_limit_in_bounds { list_limit ≤ length list.old }
@@ -131,10 +129,11 @@ pub fn step_unchecked(
     let a = fields::first(terms, e);
     let b = fields::second(terms, e);
     let table = known_table_unchecked(terms, cells, chars, reasons, keys, c, known);
-    match deep_form_by_unchecked(
+    let (form, d) = deep_form_by_unchecked(
         terms, cells, chars, reasons, keys, c, known, &table, a, &mut left,
-    ) {
-        DeepForm::List(n, d) => right_form(
+    )?;
+    match form {
+        Some(n) => right_form(
             terms,
             cells,
             chars,
@@ -149,8 +148,7 @@ pub fn step_unchecked(
             list,
             c.reasons,
         ),
-        DeepForm::None(d) => Outcome::Unexpanded(d.with_reasons(c.reasons)),
-        DeepForm::Refused(k) => Outcome::Answered(StepResult::Refused(k)),
+        None => Ok(Outcome::Unexpanded(d.with_reasons(c.reasons))),
     }
 }
 
@@ -158,16 +156,10 @@ pub fn step_unchecked(
 fn can_step(terms: &[u32], c: State, known: &[u32], e: u32, guard: i32) -> bool
     ensures { result ≡ step_arguments known.now e guard (termed terms.now c) }
 {
-    if !rules::is_list(terms, c, known) {
-        return false;
-    }
-    if rules::kind_of(terms, c.terms, e) != 5 {
-        return false;
-    }
-    if !rules::is_string(terms, c.terms, fields::first(terms, e)) {
-        return false;
-    }
-    wordeq::is_guard(guard)
+    rules::is_list(terms, c, known)
+        && rules::is_a(terms, c.terms, e, Kind::Equation)
+        && rules::is_string(terms, c.terms, fields::first(terms, e))
+        && wordeq::is_guard(guard)
 }
 
 // One step over the equation e, with the known list: the deep forms of both sides, then wordeq, its atoms in the first words of `list`.
@@ -182,31 +174,16 @@ pub fn step(
     e: u32,
     guard: i32,
     list: &mut [u32],
-) -> Outcome
+) -> Result<Outcome, Refusal>
     ensures { Writes (PublicStep known.now e guard) (across (changing terms) (changing cells) (changing chars) (changing reasons) (changing keys)) (changing list) c (stepped result) }
 {
     if list.len() < LIST_LIMIT {
-        return Outcome::Answered(StepResult::Refused(1));
+        return Err(Refusal::Sizes);
     }
-    let k = records::audit(terms, cells, chars, reasons, keys, c);
-    if k != 0 {
-        return Outcome::Answered(StepResult::Refused(k));
-    }
+    records::audit(terms, cells, chars, reasons, keys, c)?;
     if !can_step(terms, c, known, e, guard) {
-        return Outcome::Answered(StepResult::Refused(5));
+        return Err(Refusal::Argument);
     }
     let o = step_unchecked(terms, cells, chars, reasons, keys, c, known, e, guard, list);
-    cut_unstepped(terms, c.terms, o)
-}
-
-// After a refusal the index names no term that was made on the way.
-fn cut_unstepped(terms: &mut [u32], n: usize, o: Outcome) -> Outcome
-    requires fact_1 { n ≤ term_limit }
-    requires fact_2 { term_words n ≤ length terms.old }
-    ensures { CutRefused unstepped terms.old terms.new n o result }
-{
-    match o {
-        Outcome::Answered(r) => Outcome::Answered(cut_unresolved_unchecked(terms, n, r)),
-        Outcome::Unexpanded(d) => Outcome::Unexpanded(d),
-    }
+    cut_refused_unchecked(terms, c.terms, o)
 }

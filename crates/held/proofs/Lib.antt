@@ -1,2 +1,1 @@
 pub mod Linking
-mod Counted

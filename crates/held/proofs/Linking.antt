@@ -2,6 +2,7 @@
 use mathlib.Core.Path.{◌≡◌, refl, sym, ap, subst, ◌∙◌}
 use mathlib.Core.Bool.{Bool, true, false, ◌||◌}
 use mathlib.Core.List.{List}
+use mathlib.Core.Logic.{◌⊎◌, ⊎_elim}
 use Prim.Native.Nat.{ℕ, suc, ◌<◌, ◌≤◌}
 use native.Mathlib.Omega.{arith}
 use lib.ListN.{length}
@@ -60,11 +61,15 @@ module _ (l : List ℕ) (n c w x : ℕ) (z : c ≡ 0 → ⊥) (e : w ≡ c) (h :
   here : link_in (cells_view l n) c ≡ link_of c (cell_at l c)
   here = of-within (cells_view l n) c (omega arith) (rw (table-length (λ i. cell_at l (suc i)) n) (omega arith)) ∙ ap (link_of c) (cell-is l n c (omega arith) (omega arith))
 
-  pub link-last : (a b : ℕ) → x ≡ 0 → a ≡ (cell_at l c).value → b ≡ (cell_at l c).other → link.Cell a b 0 ≡ link_in (cells_view l n) c
-  link-last a b o u v = (λ i. link.Cell (u i) (v i) ((sym o ∙ p) i)) ∙ sym (here ∙ of_zero c (cell_at l c) (sym p ∙ o))
+  pub link-cell : (a b : ℕ) → ((x ≡ 0 → ⊥) × (c < x)) ⊎ (x ≡ 0) → a ≡ (cell_at l c).value → b ≡ (cell_at l c).other
+      → link.Cell a b x ≡ link_in (cells_view l n) c
+  link-cell a b o u v = (λ i. link.Cell (u i) (v i) (p i)) ∙ sym (here ∙ ⊎_elim later_lem none_lem o)
+    where
+      later_lem : (x ≡ 0 → ⊥) × (c < x) → link_of c (cell_at l c) ≡ link.Cell (cell_at l c).value (cell_at l c).other (cell_at l c).next
+      later_lem q = of-later c (cell_at l c) (subst (λ (y : ℕ). c < y) p q.1)
 
-  pub link-later : (a b : ℕ) → c < x → a ≡ (cell_at l c).value → b ≡ (cell_at l c).other → link.Cell a b x ≡ link_in (cells_view l n) c
-  link-later a b o u v = (λ i. link.Cell (u i) (v i) (p i)) ∙ sym (here ∙ of-later c (cell_at l c) (subst (λ (y : ℕ). c < y) p o))
+      none_lem : x ≡ 0 → link_of c (cell_at l c) ≡ link.Cell (cell_at l c).value (cell_at l c).other (cell_at l c).next
+      none_lem q = of_zero c (cell_at l c) (sym p ∙ q)
 
   pub link-back : (x ≡ 0 → ⊥) → x ≤ c → link.Back ≡ link_in (cells_view l n) c
   link-back y o = sym (here ∙ of-back c (cell_at l c) (λ q. y (p ∙ q)) (subst (λ (y : ℕ). y ≤ c) p o))

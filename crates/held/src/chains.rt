@@ -35,10 +35,7 @@ pub fn link_at(cells: &[u32], c: u32, n: usize) -> Link
         return Link::Absent;
     }
     let next = fields::next(cells, c);
-    if next == 0 {
-        return Link::Cell(fields::value(cells, c), fields::other(cells, c), 0);
-    }
-    if next <= c {
+    if next != 0 && next <= c {
         return Link::Back;
     }
     Link::Cell(fields::value(cells, c), fields::other(cells, c), next)
@@ -55,11 +52,5 @@ pub fn step<'a>(r: Chain<'a>, n: usize) -> Link
 pub fn next_link(cells: &[u32], c: u32, n: usize) -> Link
     ensures { result ≡ link_in (cells_view cells.now n) c }
 {
-    step(
-        Chain {
-            cells: cells,
-            at: c,
-        },
-        n,
-    )
+    step(Chain { cells, at: c }, n)
 }

@@ -1,10 +1,10 @@
 // 'taking a name advances the counter and hands the name back': the counter of names, lent.
-ghost use Rattle.std.specs.Prelude.{◌≡◌};
+ghost use Rattle.std.specs.Prelude.{◌≡◌, MatchResult};
 ghost use Rattle.records.specs.View.{names_at, across, lent};
 ghost use Rattle.records.specs.Working.Audited.{Ready};
 ghost use Rattle.records.specs.Working.Doing.{Taken};
 
-use records::{Named, State, names};
+use records::{Named, Refusal, State, names};
 
 #[derive(Drop)]
 pub struct Counter {
@@ -20,14 +20,14 @@ pub(crate) fn name_from_unchecked(
     reasons: &[u32],
     keys: &[u32],
     c: State,
-) -> Named
+) -> Result<Named, Refusal>
     requires { Ready (lent terms.now cells.now chars.now reasons.now keys.now) (names_at c next) }
     ensures { Taken (across terms cells chars reasons keys).entry (names_at c next) result }
 {
     names::take_name_unchecked(terms, cells, chars, reasons, keys, c.with_names(next))
 }
 
-// Takes the next free name: the counter moves past it, and the name is handed back.
+// Takes the next free name: the counter moves past it, and the name is handed back. After a refusal it is where it was.
 pub(crate) fn take_unchecked(
     counter: &mut Counter,
     terms: &[u32],
@@ -36,13 +36,13 @@ pub(crate) fn take_unchecked(
     reasons: &[u32],
     keys: &[u32],
     c: State,
-) -> Named
+) -> Result<Named, Refusal>
     requires { Ready (lent terms.now cells.now chars.now reasons.now keys.now) (names_at c counter.old.next) }
-    ensures { Taken (across terms cells chars reasons keys).entry (names_at c counter.old.next) result × (counter.new.next ≡ result.state.names) }
+    ensures { Taken (across terms cells chars reasons keys).entry (names_at c counter.old.next) result × MatchResult result (λ r. counter.new.next ≡ r.state.names) (λ e. counter.new.next ≡ counter.old.next) }
 {
-    let r = name_from_unchecked(counter.next, terms, cells, chars, reasons, keys, c);
+    let r = name_from_unchecked(counter.next, terms, cells, chars, reasons, keys, c)?;
     counter.next = r.state.names;
-    r
+    Ok(r)
 }
 
 // The counter of c is lent to take its next free name. Whoever calls this holds the counts alone.
@@ -53,7 +53,7 @@ pub fn next_name_unchecked(
     reasons: &[u32],
     keys: &[u32],
     c: State,
-) -> Named
+) -> Result<Named, Refusal>
     requires { Ready (lent terms.now cells.now chars.now reasons.now keys.now) c }
     ensures { Taken (across terms cells chars reasons keys).entry c result }
 {

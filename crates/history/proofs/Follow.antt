@@ -1,4 +1,5 @@
 -- Actual calls follow their definitions: each by its public contract, one after the other.
+use Rattle.std.specs.Prelude.{Result, Ok, Err}
 use mathlib.Core.Path.{◌≡◌, refl, sym, ap, subst, ◌∙◌}
 use mathlib.Core.Bool.{Bool, true, ◌&&◌}
 use mathlib.Core.List.{List, [], ◌∷◌}
@@ -7,6 +8,8 @@ use lib.ListN.{length}
 use lib.Dec.{leb}
 use borrow.Author.Tests.{leb-true}
 use Rattle.records.specs.declared.State.{State}
+use Rattle.records.specs.declared.refusal.Refusal.{Refusal}
+use Rattle.records.specs.Refusal.{number}
 use Rattle.records.specs.Lists.{all}
 use Rattle.records.specs.Store.{Store, Out, ok, stop, Work}
 use Rattle.records.specs.View.{Lent, store_of}
@@ -22,8 +25,6 @@ use Rattle.records.proofs.Passed.{ready_of, ready-after, audit-of, audit-kept}
 use Rattle.records.proofs.Beside.{audited-beside}
 use Rattle.normalize.specs.Calls.{list_call}
 use Rattle.classes.specs.declared.Standing.{Standing}
-use Rattle.classes.specs.declared.Answer.{Answer}
-use Rattle.classes.specs.declared.Answer.TheVariants.{Given, Refused}
 use Rattle.classes.specs.Marks.{Trail, trail_of, marks_rule}
 use Rattle.classes.specs.Calls.{Outcome, gives, refuses, tracked, Tracks, join_terms, set_mark, go_back}
 use Rattle.history.specs.History.{Event, World, moved}
@@ -103,8 +104,8 @@ module _ (x y : Memory) (w : World) (r : Reads x w) (ok-here : passes x) (work :
   unfolding tracked
   tracked-is = rw ok-here (ap (λ (s : Store). work s (trail_of x.marks x.standing)) r.store ∙ ap (work w.store) r.trail)
 
-  marked : (o : Answer) → Tracks work x.slices y.slices x.marks y.marks x.counts x.standing o → y.standing ≡ standing_after x.standing o → Came y (moved w f (work w.store w.trail))
-  marked (Given n e) p q =
+  marked : (o : Result (ℕ × Standing) Refusal) → Tracks work x.slices y.slices x.marks y.marks x.counts x.standing o → y.standing ≡ standing_after x.standing o → Came y (moved w f (work w.store w.trail))
+  marked (Ok (n, e)) p q =
       let i : work w.store w.trail ≡ gives (store_of y.slices x.counts) (trail_of y.marks e) n = sym tracked-is ∙ sym p.says in
       let a = p.audited n e refl in
       subst (λ (v : Outcome). Came y (moved w f v)) (sym i) (record {
@@ -112,8 +113,8 @@ module _ (x y : Memory) (w : World) (r : Reads x w) (ok-here : passes x) (work :
         audits = subst (λ (c : State). audit y.slices c ≡ 0) (sym counts) (audit-of y.slices x.counts (marks-ready a).ready);
         sizes = sized_as refl q (marks-ready a).trail;
       })
-  marked (Refused k) p q =
-      let i : work w.store w.trail ≡ refuses k = sym tracked-is ∙ sym p.says in
+  marked (Err k) p q =
+      let i : work w.store w.trail ≡ refuses (number k) = sym tracked-is ∙ sym p.says in
       let a = p.idle k refl in
       subst (λ (v : Outcome). Came y (moved w f v)) (sym i) (record {
         reads = record {

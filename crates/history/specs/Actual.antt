@@ -1,6 +1,7 @@
 -- Actual calls over lent words: what each leaves is told by its public contract alone.
-use Rattle.std.specs.Prelude.{◌≡◌, true, ◌&&◌, List, [], ◌∷◌, ℕ, length, leb}
+use Rattle.std.specs.Prelude.{◌≡◌, true, ◌&&◌, List, [], ◌∷◌, ℕ, length, leb, Result, Ok, Err}
 use Rattle.records.specs.declared.State.{State}
+use Rattle.records.specs.declared.refusal.Refusal.{Refusal}
 use Rattle.records.specs.Lists.{all}
 use Rattle.records.specs.Store.{Out, ok, stop}
 use Rattle.records.specs.View.{Lent, store_of}
@@ -16,8 +17,6 @@ use Rattle.equation.specs.Calls.{PublicStep}
 use Rattle.empties.specs.Calls.{PublicEmpties}
 use Rattle.forced.specs.Calls.{PublicForced}
 use Rattle.classes.specs.declared.Standing.{Standing}
-use Rattle.classes.specs.declared.Answer.{Answer}
-use Rattle.classes.specs.declared.Answer.TheVariants.{Given, Refused}
 use Rattle.classes.specs.Marks.{trail_of, audit_marks}
 use Rattle.classes.specs.Calls.{set_mark, go_back, Tracks, PublicJoin}
 use Rattle.history.specs.History.{World}
@@ -49,12 +48,12 @@ pub record CalledList {A : Type 0} (P : Lent → Lent → List ℕ → List ℕ 
   pub call : Called (λ m m' c r. P m m' k list c r) x y
 
 -- the counts of marks and joins that the caller holds after a call over the marks
-abbrev pub standing_after : Standing → Answer → Standing
-standing_after d (Given n e) = e
-standing_after d (Refused k) = d
+abbrev pub standing_after : Standing → Result (ℕ × Standing) Refusal → Standing
+standing_after d (Ok x) = x.1
+standing_after d (Err k) = d
 
-pub record CalledMarks (P : Lent → Lent → List ℕ → List ℕ → State → Standing → Answer → Type 0) (x y : Memory) : Type 0 where
-  pub outcome : Answer
+pub record CalledMarks (P : Lent → Lent → List ℕ → List ℕ → State → Standing → Result (ℕ × Standing) Refusal → Type 0) (x y : Memory) : Type 0 where
+  pub outcome : Result (ℕ × Standing) Refusal
   pub promise : P x.slices y.slices x.marks y.marks x.counts x.standing outcome
   pub counts : y.counts ≡ x.counts
   pub standing : y.standing ≡ standing_after x.standing outcome

@@ -1,146 +1,134 @@
 // Printing: the pieces of an answer's line are put one after the other, and the line is written as a whole; of a longer one, as much as there is room for.
-use crate::front::front_of_line;
+use crate::session::Session;
 use commands::print::{put_guard, put_name, put_number, put_reason};
 use equation::Outcome;
-use records::State;
+use lines::lending::front;
 use records::fields::word;
+use records::{Refusal, State};
 use sides::StepResult;
 use std::io;
-use std::num::wrapping_add_usize;
 
 const ROOM: usize = 1024;
 
-// One byte more of the line, of which `at` bytes are in `out`. Answers how many are there now, as do the functions below.
-fn add_byte(rt: &impl Print, out: &mut [u8; ROOM], at: usize, b: u8) -> io::Result<usize> {
-    if at < ROOM {
-        out[at] = b;
-        return Ok(at + 1);
+// The answers' words, in the order of their numbers.
+#[derive(Clone, Copy)]
+enum Name {
+    Done,
+    Saturated,
+    Conflict,
+    Propagate,
+    Split,
+    Unexpanded,
+    Refused,
+    Bad,
+}
+
+// The line, of which the first `len` bytes are not written yet.
+#[derive(Drop)]
+struct Answer {
+    bytes: [u8; ROOM],
+    len: usize,
+}
+
+impl Answer {
+    // An answer begins with its word.
+    fn of(rt: &impl Print, k: Name) -> io::Result<Answer> {
+        let mut out = Answer {
+            bytes: [0; ROOM],
+            len: 0,
+        };
+        let mut piece = [0u8; 24];
+        let n = put_name(&mut piece, k as u32);
+        out.add(rt, &piece[..n])?;
+        Ok(out)
     }
-    rt.write_all(&out[..])?;
-    out[0] = b;
-    Ok(1)
-}
 
-fn add_piece(rt: &impl Print, out: &mut [u8; ROOM], was: usize, piece: &[u8]) -> io::Result<usize> {
-    let mut at = was;
-    let mut i: usize = 0;
-    while i < piece.len() {
-        at = add_byte(rt, out, at, piece[i])?;
-        i += 1;
+    fn add_byte(&mut self, rt: &impl Print, b: u8) -> io::Result<()> {
+        if self.len < ROOM {
+            self.bytes[self.len] = b;
+            self.len += 1;
+        } else {
+            rt.write_all(&self.bytes)?;
+            self.bytes[0] = b;
+            self.len = 1;
+        }
+        Ok(())
     }
-    Ok(at)
-}
 
-fn add_name(rt: &impl Print, out: &mut [u8; ROOM], k: u32) -> io::Result<usize> {
-    let mut piece = [0u8; 24];
-    let n = put_name(&mut piece, k);
-    add_piece(rt, out, 0, &piece[..n])
-}
-
-fn add_number(rt: &impl Print, out: &mut [u8; ROOM], at: usize, x: u64) -> io::Result<usize> {
-    let mut piece = [0u8; 24];
-    let n = put_number(&mut piece, x);
-    add_piece(rt, out, at, &piece[..n])
-}
-
-fn add_reason(
-    rt: &impl Print,
-    out: &mut [u8; ROOM],
-    at: usize,
-    kind: u32,
-    x: u32,
-) -> io::Result<usize> {
-    let mut piece = [0u8; 24];
-    let n = put_reason(&mut piece, kind, x);
-    add_piece(rt, out, at, &piece[..n])
-}
-
-fn add_guard(rt: &impl Print, out: &mut [u8; ROOM], at: usize, g: i32) -> io::Result<usize> {
-    let mut piece = [0u8; 24];
-    let n = put_guard(&mut piece, g);
-    add_piece(rt, out, at, &piece[..n])
-}
-
-fn add_reasons(
-    rt: &impl Print,
-    out: &mut [u8; ROOM],
-    was: usize,
-    reasons: &[u32],
-    n: usize,
-) -> io::Result<usize> {
-    let mut at = add_number(rt, out, was, n as u64)?;
-    let mut place: usize = 0;
-    let mut i: usize = 0;
-    while i < n {
-        at = add_reason(
-            rt,
-            out,
-            at,
-            word(reasons, place),
-            word(reasons, wrapping_add_usize(place, 1)),
-        )?;
-        place = wrapping_add_usize(place, 2);
-        i += 1;
+    fn add(&mut self, rt: &impl Print, piece: &[u8]) -> io::Result<()> {
+        for &b in piece {
+            self.add_byte(rt, b)?;
+        }
+        Ok(())
     }
-    Ok(at)
-}
 
-fn add_atoms(
-    rt: &impl Print,
-    out: &mut [u8; ROOM],
-    was: usize,
-    list: &[u32],
-    n: usize,
-) -> io::Result<usize> {
-    let mut at = add_number(rt, out, was, n as u64)?;
-    let mut i: usize = 0;
-    while i < n {
-        at = add_number(rt, out, at, word(list, i) as u64)?;
-        i += 1;
+    fn number(&mut self, rt: &impl Print, x: u64) -> io::Result<()> {
+        let mut piece = [0u8; 24];
+        let n = put_number(&mut piece, x);
+        self.add(rt, &piece[..n])
     }
-    Ok(at)
+
+    fn reason(&mut self, rt: &impl Print, kind: u32, x: u32) -> io::Result<()> {
+        let mut piece = [0u8; 24];
+        let n = put_reason(&mut piece, kind, x);
+        self.add(rt, &piece[..n])
+    }
+
+    fn guard(&mut self, rt: &impl Print, g: i32) -> io::Result<()> {
+        let mut piece = [0u8; 24];
+        let n = put_guard(&mut piece, g);
+        self.add(rt, &piece[..n])
+    }
+
+    fn reasons(&mut self, rt: &impl Print, reasons: &[u32], n: usize) -> io::Result<()> {
+        self.number(rt, n as u64)?;
+        for i in 0..n {
+            let at = i.wrapping_mul(2);
+            self.reason(rt, word(reasons, at), word(reasons, at.wrapping_add(1)))?;
+        }
+        Ok(())
+    }
+
+    fn atoms(&mut self, rt: &impl Print, list: &[u32]) -> io::Result<()> {
+        self.number(rt, list.len() as u64)?;
+        for &t in list {
+            self.number(rt, u64::from(t))?;
+        }
+        Ok(())
+    }
+
+    // The line's end, and what of the line is not written.
+    fn end(&mut self, rt: &impl Print) -> io::Result<()> {
+        self.add_byte(rt, b'\n')?;
+        let n = self.len;
+        let bytes = &self.bytes;
+        rt.write_all(front(bytes, n))
+    }
 }
 
-// The line's end, and what of the line is in `out`.
-fn end_line(rt: &impl Print, out: &mut [u8; ROOM], was: usize) -> io::Result<()> {
-    let at = add_byte(rt, out, was, 10)?;
-    rt.write_all(front_of_line(out, at))
+fn say_one(rt: &impl Print, k: Name, x: u64) -> io::Result<()> {
+    let mut out = Answer::of(rt, k)?;
+    out.number(rt, x)?;
+    out.end(rt)
 }
 
-fn say_one(rt: &impl Print, k: u32, x: u64) -> io::Result<()> {
-    let mut out = [0u8; ROOM];
-    let n = add_name(rt, &mut out, k)?;
-    let m = add_number(rt, &mut out, n, x)?;
-    end_line(rt, &mut out, m)
-}
-
-pub(crate) fn say_refused(rt: &impl Print, k: u32) -> io::Result<()> {
-    say_one(rt, 6, k as u64)
+pub(crate) fn say_refused(rt: &impl Print, k: Refusal) -> io::Result<()> {
+    say_one(rt, Name::Refused, u64::from(u32::from(k)))
 }
 
 pub(crate) fn say_bad(rt: &impl Print, line: u64) -> io::Result<()> {
-    say_one(rt, 7, line)
+    say_one(rt, Name::Bad, line)
 }
 
-fn flag(link: bool) -> u64 {
-    if link {
-        return 1;
-    }
-    0
-}
-
-fn say_alone(rt: &impl Print, k: u32) -> io::Result<()> {
-    let mut out = [0u8; ROOM];
-    let n = add_name(rt, &mut out, k)?;
-    end_line(rt, &mut out, n)
+fn say_alone(rt: &impl Print, k: Name) -> io::Result<()> {
+    Answer::of(rt, k)?.end(rt)
 }
 
 // An answer's word, its count of reasons and its reasons.
-fn say_cited(rt: &impl Print, k: u32, reasons: &[u32], count: usize) -> io::Result<()> {
-    let mut out = [0u8; ROOM];
-    let n = add_name(rt, &mut out, k)?;
-    let m = add_reasons(rt, &mut out, n, reasons, count)?;
-    end_line(rt, &mut out, m)
+fn say_cited(rt: &impl Print, k: Name, reasons: &[u32], count: usize) -> io::Result<()> {
+    let mut out = Answer::of(rt, k)?;
+    out.reasons(rt, reasons, count)?;
+    out.end(rt)
 }
 
 fn say_propagate(
@@ -151,50 +139,43 @@ fn say_propagate(
     reasons: &[u32],
     count: usize,
 ) -> io::Result<()> {
-    let mut out = [0u8; ROOM];
-    let mut at = add_name(rt, &mut out, 3)?;
-    at = add_number(rt, &mut out, at, v as u64)?;
-    at = add_number(rt, &mut out, at, w as u64)?;
-    at = add_number(rt, &mut out, at, flag(link))?;
-    at = add_reasons(rt, &mut out, at, reasons, count)?;
-    end_line(rt, &mut out, at)
+    let mut out = Answer::of(rt, Name::Propagate)?;
+    out.number(rt, u64::from(v))?;
+    out.number(rt, u64::from(w))?;
+    out.number(rt, u64::from(link))?;
+    out.reasons(rt, reasons, count)?;
+    out.end(rt)
 }
 
 fn say_split(
     rt: &impl Print,
-    list: &[u32],
-    atoms: usize,
+    atoms: &[u32],
     g: i32,
     reasons: &[u32],
     count: usize,
 ) -> io::Result<()> {
-    let mut out = [0u8; ROOM];
-    let mut at = add_name(rt, &mut out, 4)?;
-    at = add_atoms(rt, &mut out, at, list, atoms)?;
-    at = add_guard(rt, &mut out, at, g)?;
-    at = add_reasons(rt, &mut out, at, reasons, count)?;
-    end_line(rt, &mut out, at)
+    let mut out = Answer::of(rt, Name::Split)?;
+    out.atoms(rt, atoms)?;
+    out.guard(rt, g)?;
+    out.reasons(rt, reasons, count)?;
+    out.end(rt)
 }
 
 // Prints wordeq's answer. Answers the counts from here on: the records that were made stay.
-fn say_answer(
-    rt: &impl Print,
-    r: StepResult,
-    reasons: &[u32],
-    list: &[u32],
-    was: State,
-) -> io::Result<State> {
+fn say_answer(rt: &impl Print, r: StepResult, s: &Session) -> io::Result<State> {
+    let reasons = &s.reasons;
+    let list = &s.list;
     match r {
         StepResult::Done(c) => {
-            say_alone(rt, 0)?;
+            say_alone(rt, Name::Done)?;
             Ok(c)
         }
         StepResult::Saturated(c) => {
-            say_cited(rt, 1, reasons, c.reasons)?;
+            say_cited(rt, Name::Saturated, reasons, c.reasons)?;
             Ok(c)
         }
         StepResult::Conflict(c) => {
-            say_cited(rt, 2, reasons, c.reasons)?;
+            say_cited(rt, Name::Conflict, reasons, c.reasons)?;
             Ok(c)
         }
         StepResult::Propagate(c, v, w, link) => {
@@ -202,28 +183,18 @@ fn say_answer(
             Ok(c)
         }
         StepResult::Split(c, n, g, _) => {
-            say_split(rt, list, n, g, reasons, c.reasons)?;
+            say_split(rt, front(list, n), g, reasons, c.reasons)?;
             Ok(c)
-        }
-        StepResult::Refused(k) => {
-            say_refused(rt, k)?;
-            Ok(was)
         }
     }
 }
 
 // The same of the step.
-pub(crate) fn say_outcome(
-    rt: &impl Print,
-    o: Outcome,
-    reasons: &[u32],
-    list: &[u32],
-    was: State,
-) -> io::Result<State> {
+pub(crate) fn say_outcome(rt: &impl Print, o: Outcome, s: &Session) -> io::Result<State> {
     match o {
-        Outcome::Answered(r) => say_answer(rt, r, reasons, list, was),
+        Outcome::Answered(r) => say_answer(rt, r, s),
         Outcome::Unexpanded(c) => {
-            say_alone(rt, 5)?;
+            say_alone(rt, Name::Unexpanded)?;
             Ok(c)
         }
     }

@@ -8,20 +8,17 @@ pub mod lending;
 pub mod reading;
 pub mod saying;
 
-use std::num::wrapping_add_usize;
-
 // The word x at place i, where the slice has that place.
 pub fn put(s: &mut [u32], i: usize, x: u32) {
-    if i < s.len() {
-        s[i] = x;
+    if let Some(w) = s.get_mut(i) {
+        *w = x;
     }
 }
 
 // The words of a slice, from place `at` of another on.
 pub fn put_all(to: &mut [u32], at: usize, from: &[u32]) {
-    let mut i: usize = 0;
-    while i < from.len() {
-        put(to, wrapping_add_usize(at, i), from[i]);
-        i += 1;
+    if let Some(room) = to.get_mut(at..) {
+        let n = from.len().min(room.len());
+        room[..n].copy_from_slice(&from[..n]);
     }
 }

@@ -26,14 +26,6 @@ use Rattle.normalize.specs.Working.Nodes.{is_constant_in, chosen, NodeOf, rank, 
 -- THE CODE'S WAYS
 
 module _ (ts : List Term) where
-  pub rank-one : (t k : ℕ) → k ≡ (term_in ts t).kind → k ≡ 1 → 1 ≡ rank ts t
-  unfolding rank
-  rank-one t k e h = rw (eq-eqb (term_in ts t).kind 1 (sym e ∙ h))
-
-  pub rank-none : (t k : ℕ) → k ≡ (term_in ts t).kind → (k ≡ 1 → ⊥) → 0 ≡ rank ts t
-  unfolding rank
-  rank-none t k e h = rw (ne_eqb (term_in ts t).kind 1 (λ q. h (e ∙ q)))
-
   module _ (t r : ℕ) (node : List ℕ) (e : r ≡ root_in ts t) where
     pub node_free : get_or node r 0 ≡ 0 → set node r t ≡ with_node ts t node
     unfolding with_node

@@ -1,7 +1,10 @@
 -- What the public calls of the normal forms promise.
-use Rattle.std.specs.Prelude.{◌≡◌, Bool, List, ℕ, length, get_or, leb, if◌then◌else◌}
+use Rattle.std.specs.Prelude.{◌≡◌, Bool, List, ℕ, length, get_or, leb, Result, Ok, Err, Some, None, if◌then◌else◌}
+use Rattle.std.specs.Prelude as code
 use Rattle.std.proofs.Math.Option.{Option, none, some}
 use Rattle.records.specs.declared.State.{State}
+use Rattle.records.specs.declared.refusal.Refusal.{Refusal}
+use Rattle.records.specs.Refusal.{number}
 use Rattle.records.specs.Lists.{table}
 use Rattle.records.specs.Store.{Store, Out, ok, stop, Work}
 use Rattle.records.specs.View.{Lent, store_of}
@@ -9,26 +12,26 @@ use Rattle.records.specs.Make.{EachOnce}
 use Rattle.records.specs.Calls.{Public, call, writes_nothing}
 use Rattle.normalize.specs.Normalize.{normal_form, deep_form, form_arguments}
 use Rattle.records.specs.Rules.{list_limit}
-use Rattle.normalize.specs.declared.Form.{Form}
-use Rattle.normalize.specs.declared.Form.TheVariants as form
-use Rattle.normalize.specs.declared.DeepForm.{DeepForm}
-use Rattle.normalize.specs.declared.DeepForm.TheVariants as deep
 use Rattle.normalize.specs.Meaning.{Forms, DeepForms}
 
 -- the first n words of a slice
 abbrev pub first_words : List ℕ → ℕ → List ℕ
 first_words l n = table (λ i. get_or l i 0) n
 
+-- the first words of a slice, unless the count is None
+abbrev pub words_if : code.Option ℕ → List ℕ → Option (List ℕ)
+words_if (Some n) l = some (first_words l n)
+words_if None l = none
+
 -- the answer of a normal form: the first words of the slice
-abbrev pub formed : Form → Lent → List ℕ → Out (List ℕ)
-formed (form.List n c) m l = ok (store_of m c) (first_words l n)
-formed (form.Refused k) m l = stop k
+abbrev pub formed : Result (ℕ × State) Refusal → Lent → List ℕ → Out (List ℕ)
+formed (Ok x) m l = ok (store_of m x.1) (first_words l x.0)
+formed (Err e) m l = stop (number e)
 
 -- the answer of a deep form
-abbrev pub deepened : DeepForm → Lent → List ℕ → Out (Option (List ℕ))
-deepened (deep.List n c) m l = ok (store_of m c) (some (first_words l n))
-deepened (deep.None c) m l = ok (store_of m c) none
-deepened (deep.Refused k) m l = stop k
+abbrev pub deepened : Result (code.Option ℕ × State) Refusal → Lent → List ℕ → Out (Option (List ℕ))
+deepened (Ok x) m l = ok (store_of m x.1) (words_if x.0 l)
+deepened (Err e) m l = stop (number e)
 
 module _ {A : Type 0} where
   -- refusal 1: 'an answer's slice under 1,024 words'

@@ -3,4 +3,3 @@ pub mod Flat
 pub mod Nodes
 pub mod Pushes
 pub mod Deeps
-pub mod Cuts

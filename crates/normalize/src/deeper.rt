@@ -12,8 +12,8 @@ ghost use Rattle.normalize.specs.Working.Pushes.{pushed, Candidates};
 ghost use Rattle.normalize.specs.Calls.{first_words, deepened};
 ghost use Rattle.normalize.specs.Working.Deeps.{MetTable, Settles, Turns};
 
-use crate::{DEEP_NF_ATOM_CAP, DeepForm, Form, Turn, expands, nodes, normal, pushes, slices};
-use records::State;
+use crate::{DEEP_NF_ATOM_CAP, Turn, expands, nodes, normal, pushes};
+use records::{Refusal, State};
 
 // The atoms of a round's list, dropped and joined again.
 fn push_all(
@@ -24,33 +24,20 @@ fn push_all(
     keys: &[u32],
     c: State,
     next: &[u32],
-    k: usize,
     out: &mut [u32],
-) -> Form
+) -> Result<(usize, State), Refusal>
     requires ready { Ready (lent terms.old cells.now chars.old reasons.now keys.now) c }
-    requires k_value { all (is_string (store_of (lent terms.old cells.now chars.old reasons.now keys.now) c)) (first_words next.now k) ≡ true }
-    requires k_in_bounds { k ≤ length next.now }
-    requires k_le_list_limit { k ≤ list_limit }
+    requires strings { all (is_string (store_of (lent terms.old cells.now chars.old reasons.now keys.now) c)) next.now ≡ true }
+    requires next_len_bound { length next.now ≤ list_limit }
     requires list_limit_in_bounds { list_limit ≤ length out.old }
-    ensures { Does (push_all (first_words next.now k) []) (across (changing terms) cells (changing chars) reasons keys) c (pushed result into changing out) }
+    ensures { Does (push_all next.now []) (across (changing terms) cells (changing chars) reasons keys) c (pushed result into changing out) }
 {
     let mut d = c;
     let mut count: usize = 0;
-    let mut i: usize = 0;
-    while i < k {
-        let form = pushes::push(terms, cells, chars, reasons, keys, d, next[i], out, count);
-        match form {
-            Form::List(n, e) => {
-                count = n;
-                d = e;
-            }
-            Form::Refused(e) => {
-                return Form::Refused(e);
-            }
-        }
-        i += 1;
+    for &a in next {
+        (count, d) = pushes::push(terms, cells, chars, reasons, keys, d, a, out, count)?;
     }
-    Form::List(count, d)
+    Ok((count, d))
 }
 
 // The end of a round: its list joined, and compared with the one before, whose place it takes.
@@ -62,32 +49,26 @@ fn settle(
     keys: &[u32],
     c: State,
     next: &[u32],
-    k: usize,
     list: &mut [u32],
     count: usize,
-) -> Turn
+) -> Result<Turn, Refusal>
     requires ready { Ready (lent terms.old cells.now chars.old reasons.now keys.now) c }
-    requires k_value { all (is_string (store_of (lent terms.old cells.now chars.old reasons.now keys.now) c)) (first_words next.now k) ≡ true }
-    requires k_in_bounds { (k ≤ length next.now) × (k ≤ list_limit) }
+    requires strings { all (is_string (store_of (lent terms.old cells.now chars.old reasons.now keys.now) c)) next.now ≡ true }
+    requires next_len_bound { length next.now ≤ list_limit }
     requires count_in_bounds { count ≤ length list.old }
     requires deep_limit_in_bounds { deep_limit ≤ length list.old }
-    ensures { Between (Settles (first_words list.old count) (first_words next.now k)) (across (changing terms) cells (changing chars) reasons keys) c list.new result }
+    ensures { Between (Settles (first_words list.old count) next.now) (across (changing terms) cells (changing chars) reasons keys) c list.new result }
 {
     let mut out: [u32; 1024] = [0; 1024];
-    let made = push_all(terms, cells, chars, reasons, keys, c, next, k, &mut out);
-    match made {
-        Form::List(n, d) => {
-            if DEEP_NF_ATOM_CAP < n {
-                return Turn::Ends(DeepForm::None(d));
-            }
-            if slices::same_words(&out, n, list, count) {
-                return Turn::Ends(DeepForm::List(count, d));
-            }
-            slices::append(list, 0, &out, n);
-            Turn::Again(n, d)
-        }
-        Form::Refused(e) => Turn::Ends(DeepForm::Refused(e)),
+    let (n, d) = push_all(terms, cells, chars, reasons, keys, c, next, &mut out)?;
+    if DEEP_NF_ATOM_CAP < n {
+        return Ok(Turn::Ends(None, d));
     }
+    if out[..n] == list[..count] {
+        return Ok(Turn::Ends(Some(count), d));
+    }
+    list[..n].copy_from_slice(&out[..n]);
+    Ok(Turn::Again(n, d))
 }
 
 // One round, in a list of at most 256 atoms.
@@ -104,25 +85,27 @@ fn round(
     list: &mut [u32],
     count: usize,
     met: &mut [u8; 513],
-) -> Turn
+) -> Result<Turn, Refusal>
     requires ready { Ready (lent terms.old cells.now chars.old reasons.old keys.now) c }
     requires candidates { Candidates (store_of (lent terms.old cells.now chars.old reasons.old keys.now) c) known.now table.now }
-    requires count_value { all (is_string (store_of (lent terms.old cells.now chars.old reasons.old keys.now) c)) (first_words list.old count) ≡ true }
+    requires strings { all (is_string (store_of (lent terms.old cells.now chars.old reasons.old keys.now) c)) (first_words list.old count) ≡ true }
     requires count_le_deep_limit { (count ≤ deep_limit) × (list_limit ≤ length list.old) }
     requires met_table { MetTable met.old }
     ensures { let l = first_words list.old count in Between (Turns known.now t l met.old) (across (changing terms) cells (changing chars) (changing reasons) keys) c list.new met.new result }
 {
-    if !expands::any_opens(terms, c.terms, t, list, count) {
-        return Turn::Ends(DeepForm::List(count, c));
+    let before = &list[..count];
+    if !expands::any_opens(terms, c.terms, t, before) {
+        return Ok(Turn::Ends(Some(count), c));
     }
     let mut next: [u32; 512] = [0; 512];
-    let made = expands::expand(
-        terms, cells, chars, reasons, keys, c, known, table, t, list, count, met, &mut next,
-    );
-    let DeepForm::List(k, d) = made else {
-        return Turn::Ends(made);
+    let (made, d) = expands::expand(
+        terms, cells, chars, reasons, keys, c, known, table, t, before, met, &mut next,
+    )?;
+    let Some(k) = made else {
+        return Ok(Turn::Ends(None, d));
     };
-    settle(terms, cells, chars, reasons, keys, d, &next, k, list, count)
+    let after = &next[..k];
+    settle(terms, cells, chars, reasons, keys, d, after, list, count)
 }
 
 // At most 64 rounds.
@@ -138,33 +121,26 @@ fn rounds(
     t: u32,
     list: &mut [u32],
     count: usize,
-) -> DeepForm
+) -> Result<(Option<usize>, State), Refusal>
     requires ready { Ready (lent terms.old cells.now chars.old reasons.old keys.now) c }
     requires candidates { Candidates (store_of (lent terms.old cells.now chars.old reasons.old keys.now) c) known.now table.now }
-    requires count_value { all (is_string (store_of (lent terms.old cells.now chars.old reasons.old keys.now) c)) (first_words list.old count) ≡ true }
+    requires strings { all (is_string (store_of (lent terms.old cells.now chars.old reasons.old keys.now) c)) (first_words list.old count) ≡ true }
     requires count_le_deep_limit { (count ≤ deep_limit) × (list_limit ≤ length list.old) }
     ensures { Does (rounds 64 known.now t [] (first_words list.old count)) (across (changing terms) cells (changing chars) (changing reasons) keys) c (deepened result into changing list) }
 {
     let mut met: [u8; 513] = [0; 513];
     let mut d = c;
     let mut n = count;
-    let mut i: usize = 0;
-    while i < 64 {
+    for _ in 0..64usize {
         let turn = round(
             terms, cells, chars, reasons, keys, d, known, table, t, list, n, &mut met,
-        );
+        )?;
         match turn {
-            Turn::Again(k, e) => {
-                n = k;
-                d = e;
-            }
-            Turn::Ends(answer) => {
-                return answer;
-            }
+            Turn::Again(k, e) => (n, d) = (k, e),
+            Turn::Ends(answer, e) => return Ok((answer, e)),
         }
-        i += 1;
     }
-    DeepForm::List(n, d)
+    Ok((Some(n), d))
 }
 
 // The representatives of the known list, for as many deep forms as are made over it.
@@ -198,25 +174,20 @@ pub fn deep_form_by_unchecked(
     table: &[u32; 513],
     t: u32,
     list: &mut [u32],
-) -> DeepForm
+) -> Result<(Option<usize>, State), Refusal>
     requires ready { Ready (lent terms.old cells.now chars.old reasons.old keys.now) c }
     requires candidates { Candidates (store_of (lent terms.old cells.now chars.old reasons.old keys.now) c) known.now table.now }
     requires t_value { is_string (store_of (lent terms.old cells.now chars.old reasons.old keys.now) c) t ≡ true }
     requires list_limit_in_bounds { list_limit ≤ length list.old }
     ensures { Does (deep_form known.now t) (across (changing terms) cells (changing chars) (changing reasons) keys) c (deepened result into changing list) }
 {
-    let made = normal::form_by(terms, cells, chars, reasons, keys, c, known, table, t, list);
-    match made {
-        Form::List(n, d) => {
-            if DEEP_NF_ATOM_CAP < n {
-                return DeepForm::None(d);
-            }
-            rounds(
-                terms, cells, chars, reasons, keys, d, known, table, t, list, n,
-            )
-        }
-        Form::Refused(e) => DeepForm::Refused(e),
+    let (n, d) = normal::form_by(terms, cells, chars, reasons, keys, c, known, table, t, list)?;
+    if DEEP_NF_ATOM_CAP < n {
+        return Ok((None, d));
     }
+    rounds(
+        terms, cells, chars, reasons, keys, d, known, table, t, list, n,
+    )
 }
 
 // The deep form of t over the known list, with the reasons of each atom that was replaced in any round.
@@ -230,9 +201,9 @@ pub(crate) fn deep_normal_form_cited_unchecked(
     known: &[u32],
     t: u32,
     list: &mut [u32],
-) -> DeepForm
+) -> Result<(Option<usize>, State), Refusal>
     requires ready { Ready (lent terms.old cells.now chars.old reasons.old keys.now) c }
-    requires c_value { form_arguments known.now t (store_of (lent terms.old cells.now chars.old reasons.old keys.now) c) ≡ true }
+    requires arguments { form_arguments known.now t (store_of (lent terms.old cells.now chars.old reasons.old keys.now) c) ≡ true }
     requires list_limit_in_bounds { list_limit ≤ length list.old }
     ensures { Does (deep_form known.now t) (across (changing terms) cells (changing chars) (changing reasons) keys) c (deepened result into changing list) }
 {

@@ -11,32 +11,21 @@ ghost use Rattle.normalize.specs.Working.Pushes.{Candidates};
 ghost use Rattle.normalize.specs.Calls.{first_words, deepened};
 ghost use Rattle.normalize.specs.Working.Deeps.{opens_in, RoundOf, expand_atom, Expands};
 
-use crate::{DEEP_NF_ATOM_CAP, DeepForm, Form, normal, slices};
-use records::{State, rules};
+use crate::{DEEP_NF_ATOM_CAP, normal};
+use records::{Kind, Refusal, State, rules};
 
 // Whether a is expanded: a concatenation, and not the term itself.
 fn opens(terms: &[u32], n: usize, t: u32, a: u32) -> bool
     ensures { result ≡ opens_in (terms_view terms.now n) t a }
 {
-    if rules::kind_of(terms, n, a) != 3 {
-        return false;
-    }
-    a != t
+    rules::is_a(terms, n, a, Kind::Concatenation) && a != t
 }
 
 // Whether an atom of the list is expanded.
-pub(crate) fn any_opens(terms: &[u32], n: usize, t: u32, list: &[u32], count: usize) -> bool
-    requires { count ≤ length list.now }
-    ensures { result ≡ any (opens_in (terms_view terms.now n) t) (first_words list.now count) }
+pub(crate) fn any_opens(terms: &[u32], n: usize, t: u32, list: &[u32]) -> bool
+    ensures { result ≡ any (opens_in (terms_view terms.now n) t) list.now }
 {
-    let mut i: usize = 0;
-    while i < count {
-        if opens(terms, n, t, list[i]) {
-            return true;
-        }
-        i += 1;
-    }
-    false
+    list.iter().any(|&a| opens(terms, n, t, a))
 }
 
 // The normal form of a concatenation after the first k words of the round's list.
@@ -52,28 +41,23 @@ fn expand_atom(
     a: u32,
     next: &mut [u32],
     k: usize,
-) -> DeepForm
+) -> Result<(Option<usize>, State), Refusal>
     requires ready { Ready (lent terms.old cells.now chars.old reasons.old keys.now) c }
     requires candidates { Candidates (store_of (lent terms.old cells.now chars.old reasons.old keys.now) c) known.now table.now }
-    requires a_value { is_string (store_of (lent terms.old cells.now chars.old reasons.old keys.now) c) a ≡ true }
+    requires a_string { is_string (store_of (lent terms.old cells.now chars.old reasons.old keys.now) c) a ≡ true }
     requires k_in_bounds { k < length next.old }
     requires deep_limit_in_bounds { deep_limit ≤ length next.old }
     ensures { Does (expand_atom known.now a (first_words next.old k)) (across (changing terms) cells (changing chars) (changing reasons) keys) c (deepened result into changing next) }
 {
     let mut form: [u32; 1024] = [0; 1024];
-    let made = normal::form_by(
+    let (n, d) = normal::form_by(
         terms, cells, chars, reasons, keys, c, known, table, a, &mut form,
-    );
-    match made {
-        Form::List(n, d) => {
-            if DEEP_NF_ATOM_CAP < k + n {
-                return DeepForm::None(d);
-            }
-            slices::append(next, k, &form, n);
-            DeepForm::List(k + n, d)
-        }
-        Form::Refused(e) => DeepForm::Refused(e),
+    )?;
+    if DEEP_NF_ATOM_CAP < k + n {
+        return Ok((None, d));
     }
+    next[k..k + n].copy_from_slice(&form[..n]);
+    Ok((Some(k + n), d))
 }
 
 // One atom of a round: as it stands, or expanded. A concatenation met again gives None.
@@ -91,20 +75,20 @@ fn expand_one(
     met: &mut [u8; 513],
     next: &mut [u32],
     k: usize,
-) -> DeepForm
+) -> Result<(Option<usize>, State), Refusal>
     requires ready { Ready (lent terms.old cells.now chars.old reasons.old keys.now) c }
     requires candidates { Candidates (store_of (lent terms.old cells.now chars.old reasons.old keys.now) c) known.now table.now }
-    requires a_value { is_string (store_of (lent terms.old cells.now chars.old reasons.old keys.now) c) a ≡ true }
+    requires a_string { is_string (store_of (lent terms.old cells.now chars.old reasons.old keys.now) c) a ≡ true }
     requires k_in_bounds { k < length next.old }
     requires deep_limit_in_bounds { deep_limit ≤ length next.old }
     ensures { Between (Expands known.now t (a ∷ []) next.old k met.old) (across (changing terms) cells (changing chars) (changing reasons) keys) c next.new met.new result }
 {
     if !opens(terms, c.terms, t, a) {
         next[k] = a;
-        return DeepForm::List(k + 1, c);
+        return Ok((Some(k + 1), c));
     }
     if met[a as usize] == 1 {
-        return DeepForm::None(c);
+        return Ok((None, c));
     }
     met[a as usize] = 1;
     expand_atom(
@@ -124,28 +108,25 @@ pub(crate) fn expand(
     table: &[u32; 513],
     t: u32,
     list: &[u32],
-    count: usize,
     met: &mut [u8; 513],
     next: &mut [u32],
-) -> DeepForm
+) -> Result<(Option<usize>, State), Refusal>
     requires ready { Ready (lent terms.old cells.now chars.old reasons.old keys.now) c }
     requires candidates { Candidates (store_of (lent terms.old cells.now chars.old reasons.old keys.now) c) known.now table.now }
-    requires round_of { RoundOf (store_of (lent terms.old cells.now chars.old reasons.old keys.now) c) list.now count met.old next.old }
-    ensures { let l = first_words list.now count in Between (Expands known.now t l next.old 0 met.old) (across (changing terms) cells (changing chars) (changing reasons) keys) c next.new met.new result }
+    requires round_of { RoundOf (store_of (lent terms.old cells.now chars.old reasons.old keys.now) c) list.now (length list.now) met.old next.old }
+    ensures { Between (Expands known.now t list.now next.old 0 met.old) (across (changing terms) cells (changing chars) (changing reasons) keys) c next.new met.new result }
 {
     let mut d = c;
     let mut k: usize = 0;
-    let mut i: usize = 0;
-    while i < count {
-        let made = expand_one(
-            terms, cells, chars, reasons, keys, d, known, table, t, list[i], met, next, k,
-        );
-        let DeepForm::List(n, e) = made else {
-            return made;
+    for &a in list {
+        let (made, e) = expand_one(
+            terms, cells, chars, reasons, keys, d, known, table, t, a, met, next, k,
+        )?;
+        let Some(n) = made else {
+            return Ok((None, e));
         };
         k = n;
         d = e;
-        i += 1;
     }
-    DeepForm::List(k, d)
+    Ok((Some(k), d))
 }

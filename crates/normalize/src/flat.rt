@@ -6,19 +6,20 @@ ghost use Rattle.normalize.specs.Working.Flat.{bare, Nested, Appended};
 
 use held::chains;
 use held::chains::Link;
-use records::{LIST_LIMIT, fields, rules};
+use records::{Kind, LIST_LIMIT, fields, rules};
 
 // One atom more; a list that is full passes the limit.
 fn push_atom(out: &mut [u32], count: usize, t: u32) -> usize
-    requires fact_1 { count ≤ list_limit }
-    requires fact_2 { list_limit ≤ length out.old }
+    requires count_le_list_limit { count ≤ list_limit }
+    requires list_limit_in_bounds { list_limit ≤ length out.old }
     ensures { Appended out.old out.new count (t ∷ []) result }
 {
     if count < LIST_LIMIT {
         out[count] = t;
-        return count + 1;
+        count + 1
+    } else {
+        LIST_LIMIT + 1
     }
-    LIST_LIMIT + 1
 }
 
 // The atoms of t after the first `count` words. Nothing is walked past the first atom that does not fit.
@@ -36,20 +37,17 @@ pub fn flatten_unchecked(
     requires list_limit_in_bounds { list_limit ≤ length out.old }
     ensures { Appended out.old out.new count (atoms (bare terms.now n cells.now m) t) result }
 {
-    if rules::kind_of(terms, n, t) != 3 {
+    if !rules::is_a(terms, n, t, Kind::Concatenation) {
         return push_atom(out, count, t);
     }
     let mut at = fields::first(terms, t);
     let mut k = count;
-    loop {
-        let link = chains::next_link(cells, at, m);
-        let Link::Cell(v, _, next) = link else {
-            return k;
-        };
+    while let Link::Cell(v, _, next) = chains::next_link(cells, at, m) {
         k = flatten_unchecked(terms, n, cells, m, v, out, k);
         if LIST_LIMIT < k {
             return k;
         }
         at = next;
     }
+    k
 }

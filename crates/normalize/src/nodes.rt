@@ -7,41 +7,32 @@ ghost use Rattle.records.specs.Working.Audited.{Closed};
 ghost use Rattle.records.specs.Working.ClimbEnds.{Ends};
 ghost use Rattle.normalize.specs.Working.Nodes.{rank, with_node, with_nodes, node_at, Rooting, Keeps};
 
-use records::{classes, roots, rules};
+use records::{Kind, classes, roots, rules};
 
 // Constants before others.
 fn rep_rank(terms: &[u32], n: usize, t: u32) -> u32
     ensures { result ≡ rank (terms_view terms.now n) t }
 {
-    if rules::kind_of(terms, n, t) == 1 {
-        return 1;
-    }
-    0
+    u32::from(rules::is_a(terms, n, t, Kind::Constant))
 }
 
 // One candidate more, of the class of this root.
 fn put_node(terms: &[u32], n: usize, t: u32, root: u32, nodes: &mut [u32; 513])
-    requires fact_1 { root < 513 }
-    requires fact_2 { root ≡ root_in (terms_view terms.now n) t }
+    requires root_in_bounds { root < 513 }
+    requires root_of_t { root ≡ root_in (terms_view terms.now n) t }
     ensures { nodes.new ≡ with_node (terms_view terms.now n) t nodes.old }
 {
     let at = root as usize;
     let prev = nodes[at];
-    if prev == 0 {
-        nodes[at] = t;
-        return;
-    }
-    let old = rep_rank(terms, n, prev);
-    let new = rep_rank(terms, n, t);
-    if old < new {
+    if prev == 0 || rep_rank(terms, n, prev) < rep_rank(terms, n, t) {
         nodes[at] = t;
     }
 }
 
 fn add_node(terms: &[u32], n: usize, t: u32, nodes: &mut [u32; 513])
-    requires fact_1 { n ≤ term_limit }
-    requires fact_2 { within n t ≡ true }
-    requires fact_3 { Closed (class_up (terms_view terms.now n)) n }
+    requires n_le_term_limit { n ≤ term_limit }
+    requires t_counted { within n t ≡ true }
+    requires closed { Closed (class_up (terms_view terms.now n)) n }
     ensures { nodes.new ≡ with_node (terms_view terms.now n) t nodes.old }
 {
     let root = classes::root_unchecked(terms, n, t);
@@ -51,7 +42,7 @@ fn add_node(terms: &[u32], n: usize, t: u32, nodes: &mut [u32; 513])
 // The same as add_node, and the root is kept.
 fn keep_node(terms: &[u32], n: usize, t: u32, nodes: &mut [u32; 513], roots: &mut [u32; 513])
     requires n_le_term_limit { n ≤ term_limit }
-    requires t_value { within n t ≡ true }
+    requires t_counted { within n t ≡ true }
     requires rooting { Rooting (terms_view terms.now n) n }
     requires ends { Ends (class_up (terms_view terms.now n)) n roots.old }
     ensures { Keeps (terms_view terms.now n) n t nodes.old nodes.new roots.new }
@@ -67,10 +58,8 @@ fn build_few(terms: &[u32], n: usize, known: &[u32], nodes: &mut [u32; 513])
     requires closed { Closed (class_up (terms_view terms.now n)) n }
     ensures { nodes.new ≡ with_nodes (terms_view terms.now n) known.now nodes.old }
 {
-    let mut i: usize = 0;
-    while i < known.len() {
-        add_node(terms, n, known[i], nodes);
-        i += 1;
+    for &t in known {
+        add_node(terms, n, t, nodes);
     }
 }
 
@@ -82,10 +71,8 @@ fn build_many(terms: &[u32], n: usize, known: &[u32], nodes: &mut [u32; 513])
     ensures { nodes.new ≡ with_nodes (terms_view terms.now n) known.now nodes.old }
 {
     let mut roots: [u32; 513] = [0; 513];
-    let mut i: usize = 0;
-    while i < known.len() {
-        keep_node(terms, n, known[i], nodes, &mut roots);
-        i += 1;
+    for &t in known {
+        keep_node(terms, n, t, nodes, &mut roots);
     }
 }
 
@@ -98,22 +85,19 @@ pub(crate) fn build_node_of(terms: &[u32], n: usize, known: &[u32], nodes: &mut 
 {
     if known.len() < 16 {
         build_few(terms, n, known, nodes);
-        return;
+    } else {
+        build_many(terms, n, known, nodes);
     }
-    build_many(terms, n, known, nodes);
 }
 
 // The representative of t's class, or t itself where the class has none.
 pub(crate) fn rep(terms: &[u32], n: usize, nodes: &[u32; 513], t: u32) -> u32
-    requires fact_1 { n ≤ term_limit }
-    requires fact_2 { within n t ≡ true }
-    requires fact_3 { Closed (class_up (terms_view terms.now n)) n }
+    requires n_le_term_limit { n ≤ term_limit }
+    requires t_counted { within n t ≡ true }
+    requires closed { Closed (class_up (terms_view terms.now n)) n }
     ensures { result ≡ node_at (terms_view terms.now n) nodes.now t }
 {
     let root = classes::root_unchecked(terms, n, t) as usize;
     let r = nodes[root];
-    if r == 0 {
-        return t;
-    }
-    r
+    if r == 0 { t } else { r }
 }

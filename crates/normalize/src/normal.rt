@@ -12,9 +12,9 @@ ghost use Rattle.records.specs.Rules.{list_limit};
 ghost use Rattle.normalize.specs.Working.Pushes.{pushed, cite, push_for, Candidates};
 ghost use Rattle.normalize.specs.Calls.{first_words, formed};
 
-use crate::{Form, flat, nodes, pushes};
+use crate::{deeper, flat, nodes, pushes};
 use engine::explain_unchecked;
-use records::{Added, LIST_LIMIT, State, rules};
+use records::{Kind, LIST_LIMIT, Refusal, State, rules};
 
 // The reasons that a is equal to r, where they differ.
 fn cite(
@@ -27,15 +27,16 @@ fn cite(
     a: u32,
     r: u32,
     places: &mut [u32],
-) -> Added
+) -> Result<State, Refusal>
     requires ready { Ready (lent terms.now cells.now chars.now reasons.old keys.now) c }
-    requires c_value { explain_arguments a r (store_of (lent terms.now cells.now chars.now reasons.old keys.now) c) ≡ true }
+    requires explainable { explain_arguments a r (store_of (lent terms.now cells.now chars.now reasons.old keys.now) c) ≡ true }
     ensures { Does (cite a r) (across terms cells chars (changing reasons) keys) c (added result) }
 {
     if r == a {
-        return Added::Counts(c);
+        Ok(c)
+    } else {
+        explain_unchecked(terms, cells, chars, reasons, keys, c, a, r, places)
     }
-    explain_unchecked(terms, cells, chars, reasons, keys, c, a, r, places)
 }
 
 // The atom a as its representative r.
@@ -51,18 +52,15 @@ fn push_for(
     list: &mut [u32],
     count: usize,
     places: &mut [u32],
-) -> Form
+) -> Result<(usize, State), Refusal>
     requires ready { Ready (lent terms.old cells.now chars.old reasons.old keys.now) c }
-    requires c_value { explain_arguments a r (store_of (lent terms.old cells.now chars.old reasons.old keys.now) c) ≡ true }
+    requires explainable { explain_arguments a r (store_of (lent terms.old cells.now chars.old reasons.old keys.now) c) ≡ true }
     requires count_lt_list_limit { count < list_limit }
     requires list_limit_in_bounds { list_limit ≤ length list.old }
     ensures { Does (push_for a r (reverse (first_words list.old count))) (across (changing terms) cells (changing chars) (changing reasons) keys) c (pushed result into changing list) }
 {
-    let cited = cite(terms, cells, chars, reasons, keys, c, a, r, places);
-    match cited {
-        Added::Counts(d) => pushes::push(terms, cells, chars, reasons, keys, d, r, list, count),
-        Added::Refused(k) => Form::Refused(k),
-    }
+    let d = cite(terms, cells, chars, reasons, keys, c, a, r, places)?;
+    pushes::push(terms, cells, chars, reasons, keys, d, r, list, count)
 }
 
 // Atom by atom. The table is that of the known list followed by the atoms; `places` has where the reason of each edge was found last.
@@ -78,7 +76,7 @@ fn push_forms(
     table: &[u32; 513],
     list: &mut [u32],
     places: &mut [u32],
-) -> Form
+) -> Result<(usize, State), Refusal>
     requires ready { Ready (lent terms.old cells.now chars.old reasons.old keys.now) c }
     requires candidates { Candidates (store_of (lent terms.old cells.now chars.old reasons.old keys.now) c) (known.now ++ flat.now) table.now }
     requires flat_len_bound { length flat.now ≤ list_limit }
@@ -87,25 +85,13 @@ fn push_forms(
 {
     let mut d = c;
     let mut count: usize = 0;
-    let mut i: usize = 0;
-    while i < flat.len() {
-        let a = flat[i];
+    for &a in flat {
         let r = nodes::rep(terms, d.terms, table, a);
-        let form = push_for(
+        (count, d) = push_for(
             terms, cells, chars, reasons, keys, d, a, r, list, count, places,
-        );
-        match form {
-            Form::List(n, e) => {
-                count = n;
-                d = e;
-            }
-            Form::Refused(k) => {
-                return Form::Refused(k);
-            }
-        }
-        i += 1;
+        )?;
     }
-    Form::List(count, d)
+    Ok((count, d))
 }
 
 // From the atoms on. The table is that of the known list. For few atoms there are no places: to clear them costs more than to do without.
@@ -120,36 +106,36 @@ fn form_atoms(
     table: &[u32; 513],
     flat: &[u32],
     list: &mut [u32],
-) -> Form
+) -> Result<(usize, State), Refusal>
     requires ready { Ready (lent terms.old cells.now chars.old reasons.old keys.now) c }
     requires candidates { Candidates (store_of (lent terms.old cells.now chars.old reasons.old keys.now) c) known.now table.now }
-    requires flat_value { all (is_string (store_of (lent terms.old cells.now chars.old reasons.old keys.now) c)) flat.now ≡ true }
+    requires flat_strings { all (is_string (store_of (lent terms.old cells.now chars.old reasons.old keys.now) c)) flat.now ≡ true }
     requires flat_len_bound { length flat.now ≤ list_limit }
     requires list_limit_in_bounds { list_limit ≤ length list.old }
     ensures { Does (push_forms (known.now ++ flat.now) flat.now []) (across (changing terms) cells (changing chars) (changing reasons) keys) c (pushed result into changing list) }
 {
-    let mut own: [u32; 513] = *table;
+    let mut own = *table;
     nodes::build_node_of(terms, c.terms, flat, &mut own);
     if flat.len() < 8 {
-        let mut none: [u32; 0] = [];
-        return push_forms(
-            terms, cells, chars, reasons, keys, c, known, flat, &own, list, &mut none,
-        );
+        push_forms(
+            terms,
+            cells,
+            chars,
+            reasons,
+            keys,
+            c,
+            known,
+            flat,
+            &own,
+            list,
+            &mut [],
+        )
+    } else {
+        let places: &mut [u32; 513] = &mut [0; 513];
+        push_forms(
+            terms, cells, chars, reasons, keys, c, known, flat, &own, list, places,
+        )
     }
-    let mut places: [u32; 513] = [0; 513];
-    push_forms(
-        terms,
-        cells,
-        chars,
-        reasons,
-        keys,
-        c,
-        known,
-        flat,
-        &own,
-        list,
-        &mut places,
-    )
 }
 
 // The normal form of t by way of its flattened atoms, whose list is cleared at each call.
@@ -164,17 +150,17 @@ fn form_flat(
     table: &[u32; 513],
     t: u32,
     list: &mut [u32],
-) -> Form
+) -> Result<(usize, State), Refusal>
     requires ready { Ready (lent terms.old cells.now chars.old reasons.old keys.now) c }
     requires candidates { Candidates (store_of (lent terms.old cells.now chars.old reasons.old keys.now) c) known.now table.now }
-    requires t_value { is_string (store_of (lent terms.old cells.now chars.old reasons.old keys.now) c) t ≡ true }
+    requires t_string { is_string (store_of (lent terms.old cells.now chars.old reasons.old keys.now) c) t ≡ true }
     requires list_limit_in_bounds { list_limit ≤ length list.old }
     ensures { Does (normal_form known.now t) (across (changing terms) cells (changing chars) (changing reasons) keys) c (formed result into changing list) }
 {
     let mut flat: [u32; 1024] = [0; 1024];
     let n = flat::flatten_unchecked(terms, c.terms, cells, c.cells, t, &mut flat, 0);
     if LIST_LIMIT < n {
-        return Form::Refused(6);
+        return Err(Refusal::List);
     }
     form_atoms(
         terms,
@@ -203,20 +189,21 @@ pub(crate) fn form_by(
     table: &[u32; 513],
     t: u32,
     list: &mut [u32],
-) -> Form
+) -> Result<(usize, State), Refusal>
     requires ready { Ready (lent terms.old cells.now chars.old reasons.old keys.now) c }
     requires candidates { Candidates (store_of (lent terms.old cells.now chars.old reasons.old keys.now) c) known.now table.now }
-    requires t_value { is_string (store_of (lent terms.old cells.now chars.old reasons.old keys.now) c) t ≡ true }
+    requires t_string { is_string (store_of (lent terms.old cells.now chars.old reasons.old keys.now) c) t ≡ true }
     requires list_limit_in_bounds { list_limit ≤ length list.old }
     ensures { Does (normal_form known.now t) (across (changing terms) cells (changing chars) (changing reasons) keys) c (formed result into changing list) }
 {
-    if rules::kind_of(terms, c.terms, t) != 3 {
+    if rules::is_a(terms, c.terms, t, Kind::Concatenation) {
+        form_flat(terms, cells, chars, reasons, keys, c, known, table, t, list)
+    } else {
         let one: [u32; 1] = [t];
-        return form_atoms(
+        form_atoms(
             terms, cells, chars, reasons, keys, c, known, table, &one, list,
-        );
+        )
     }
-    form_flat(terms, cells, chars, reasons, keys, c, known, table, t, list)
 }
 
 // The normal form of t over the known list, with the reasons of each atom that was replaced.
@@ -230,14 +217,13 @@ pub(crate) fn normal_form_cited_unchecked(
     known: &[u32],
     t: u32,
     list: &mut [u32],
-) -> Form
+) -> Result<(usize, State), Refusal>
     requires ready { Ready (lent terms.old cells.now chars.old reasons.old keys.now) c }
-    requires c_value { form_arguments known.now t (store_of (lent terms.old cells.now chars.old reasons.old keys.now) c) ≡ true }
+    requires arguments { form_arguments known.now t (store_of (lent terms.old cells.now chars.old reasons.old keys.now) c) ≡ true }
     requires list_limit_in_bounds { list_limit ≤ length list.old }
     ensures { Does (normal_form known.now t) (across (changing terms) cells (changing chars) (changing reasons) keys) c (formed result into changing list) }
 {
-    let mut table: [u32; 513] = [0; 513];
-    nodes::build_node_of(terms, c.terms, known, &mut table);
+    let table = deeper::known_table_unchecked(terms, cells, chars, reasons, keys, c, known);
     form_by(
         terms, cells, chars, reasons, keys, c, known, &table, t, list,
     )

@@ -9,17 +9,13 @@ ghost use Rattle.records.specs.Rules.{list_limit};
 ghost use Rattle.normalize.specs.Working.Pushes.{is_empty_in, joins_in, pushed};
 ghost use Rattle.normalize.specs.Calls.{first_words};
 
-use crate::Form;
-use records::{Made, State, fields, make, rules};
+use records::{Kind, Refusal, State, fields, make, rules};
 
 // Whether t is "".
 fn is_empty(terms: &[u32], n: usize, t: u32) -> bool
     ensures { result ≡ is_empty_in (terms_view terms.now n) t }
 {
-    if rules::kind_of(terms, n, t) != 1 {
-        return false;
-    }
-    fields::second(terms, t) == 0
+    rules::is_a(terms, n, t, Kind::Constant) && fields::second(terms, t) == 0
 }
 
 // Whether t and the last atom of the list are constants.
@@ -27,13 +23,9 @@ fn joins_with_last(terms: &[u32], n: usize, t: u32, list: &[u32], count: usize) 
     requires { count ≤ length list.now }
     ensures { result ≡ joins_in (terms_view terms.now n) t (reverse (first_words list.now count)) }
 {
-    if count == 0 {
-        return false;
-    }
-    if rules::kind_of(terms, n, t) != 1 {
-        return false;
-    }
-    rules::kind_of(terms, n, list[count - 1]) == 1
+    count != 0
+        && rules::is_a(terms, n, t, Kind::Constant)
+        && rules::is_a(terms, n, list[count - 1], Kind::Constant)
 }
 
 // Joins t with the last atom, in its place.
@@ -47,23 +39,18 @@ fn join_last(
     t: u32,
     list: &mut [u32],
     count: usize,
-) -> Form
+) -> Result<(usize, State), Refusal>
     requires ready { Ready (lent terms.old cells.now chars.old reasons.now keys.now) c }
-    requires count_value { joins_in (terms_view terms.old c.terms) t (reverse (first_words list.old count)) ≡ true }
+    requires joins { joins_in (terms_view terms.old c.terms) t (reverse (first_words list.old count)) ≡ true }
     requires count_nonzero { 0 < count }
     requires count_in_bounds { count ≤ length list.old }
     ensures { Does (join t (reverse (first_words list.old count))) (across (changing terms) cells (changing chars) reasons keys) c (pushed result into changing list) }
 {
     let last = count - 1;
     let pair: [u32; 2] = [list[last], t];
-    let made = make::join_constants_unchecked(terms, cells, chars, reasons, keys, c, &pair);
-    match made {
-        Made::Term(u, d) => {
-            list[last] = u;
-            Form::List(count, d)
-        }
-        Made::Refused(k) => Form::Refused(k),
-    }
+    let (u, d) = make::join_constants_unchecked(terms, cells, chars, reasons, keys, c, &pair)?;
+    list[last] = u;
+    Ok((count, d))
 }
 
 // One atom more.
@@ -77,18 +64,18 @@ pub(crate) fn push(
     t: u32,
     list: &mut [u32],
     count: usize,
-) -> Form
+) -> Result<(usize, State), Refusal>
     requires ready { Ready (lent terms.old cells.now chars.old reasons.now keys.now) c }
     requires count_lt_list_limit { count < list_limit }
     requires list_limit_in_bounds { list_limit ≤ length list.old }
     ensures { Does (push t (reverse (first_words list.old count))) (across (changing terms) cells (changing chars) reasons keys) c (pushed result into changing list) }
 {
     if is_empty(terms, c.terms, t) {
-        return Form::List(count, c);
+        Ok((count, c))
+    } else if joins_with_last(terms, c.terms, t, list, count) {
+        join_last(terms, cells, chars, reasons, keys, c, t, list, count)
+    } else {
+        list[count] = t;
+        Ok((count + 1, c))
     }
-    if joins_with_last(terms, c.terms, t, list, count) {
-        return join_last(terms, cells, chars, reasons, keys, c, t, list, count);
-    }
-    list[count] = t;
-    Form::List(count + 1, c)
 }

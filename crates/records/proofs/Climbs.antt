@@ -13,7 +13,7 @@ use Rattle.records.specs.declared.State.{State}
 use Rattle.records.specs.Store.{Term, Store, term, term_in, count, is_term, is_string, within, climb, class_up, forest_up, root_in, top_in, above_by, above_in}
 use Rattle.records.specs.View.{Lent, term_at, terms_view, store_of}
 use Rattle.records.specs.Rules.{parents_rule, each_term}
-use Rattle.records.specs.Working.Audited.{Closed, Classed}
+use Rattle.records.specs.Working.Audited.{Closed, Steps, Classed}
 use Rattle.records.proofs.Lists.{both_left, both_right, upto-at, upto_all, within_low, within-high, table-length}
 use Rattle.records.proofs.Views.{term_is}
 use Rattle.records.proofs.Grown.{string-term}
@@ -155,6 +155,9 @@ module _ (l : List ℕ) (n : ℕ) where
   pub view_up : (forest : Bool) (t y : ℕ) → within n t ≡ true → y ≡ parent_of forest (term_at l t) → y ≡ up_in forest (terms_view l n) t
   view_up forest t y w e = e ∙ ap (parent_of forest) (sym (view_term t w))
 
+  pub view_steps : (forest : Bool) (answers : ℕ → ℕ → Type 0) → Closed (up_in forest (terms_view l n)) n → ((x y : ℕ) → answers x y → y ≡ parent_of forest (term_at l x)) → Steps answers (up_in forest (terms_view l n)) n
+  view_steps forest answers h e = record { closed = h; is = λ x y w p. view_up forest x y w (e x y p) }
+
   pub view_class : (t y : ℕ) → within n t ≡ true → y ≡ (term_at l t).class_parent → y ≡ class_up (terms_view l n) t
   view_class = view_up false
 
@@ -166,13 +169,6 @@ module _ (l : List ℕ) (n : ℕ) where
 
   pub top-counted : (t x : ℕ) → x ≡ climb (forest_up (terms_view l n)) n t → x ≡ top_in (terms_view l n) t
   top-counted t x e = rw view_count e
-
--- the parent that the code reads
-pub parent-forest : (forest : Bool) (x : Term) (r : ℕ) → forest ≡ true → r ≡ x.forest_parent → r ≡ parent_of forest x
-parent-forest forest x r e h = rw e h
-
-pub parent-class : (forest : Bool) (x : Term) (r : ℕ) → forest ≡ false → r ≡ x.class_parent → r ≡ parent_of forest x
-parent-class forest x r e h = rw e h
 
 -- what the climbs require, of a store that passes the audit
 module _ (m : Lent) (c : State) where

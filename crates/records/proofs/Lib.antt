@@ -22,6 +22,7 @@ pub mod Append
 pub mod Extend
 pub mod Beside
 pub mod Kept
+pub mod KindWords
 pub mod MadeWords
 pub mod Naming
 pub mod Outcomes

@@ -1,5 +1,6 @@
 -- Laws of tests, lists and numbers: none knows what a store is.
 use Rattle.std.specs.Prelude.{if◌then◌else◌}
+use Rattle.std.specs.List.{list_all}
 use mathlib.Core.Path.{◌≡◌, refl, sym, ap, ◌∙◌}
 use mathlib.Core.Bool.{Bool, true, false, not, ◌&&◌, ◌||◌, false≢true}
 use mathlib.Core.List.{List, [], ◌∷◌, ◌++◌, append_assoc, Memᴰ}
@@ -12,6 +13,8 @@ use native.Mathlib.Omega.{arith}
 use lib.ListN.{length, take, drop, get_or, replicate, length-append, get_or-append, get_or-eq_default}
 use lib.Seq.{get_or_at, drop-cons}
 use lib.Dec.{eqb, ltb}
+use lib.Pointwise.{pointwise}
+use borrow.Author.Count.{below_more}
 use borrow.Author.Tests.{not-true, not-false, eqb-true, eq-eqb, ltb-true, leb-true, lt-ltb, le-leb, le-ltb, lt-leb}
 use Rattle.records.specs.Lists.{all, any, concat_map, table, same_word, firsts, seconds, all_below, first_below, last_below, Every, none_left, and}
 use Rattle.records.specs.Store.{within}
@@ -184,11 +187,11 @@ pub upto_all : (p : ℕ → Bool) (n : ℕ) → ((t : ℕ) → within n t ≡ tr
 upto_all p n f = below_all (λ i. p (suc i)) n (λ k l. f (suc k) (within-is n (suc k) (omega arith) l))
 
 -- the loop `while i < n { if !test(.., i) { return false; } i += 1; } true`
-pub below-stop : (p : ℕ → Bool) (n i : ℕ) (b : Bool) → b ≡ p i → not b ≡ true → i < n → false ≡ all_below p n
-below-stop p n i b e h l = sym (below_false p n i l (sym e ∙ not-true b h))
+pub below-stop : (p : ℕ → Bool) (n i : ℕ) (b : Bool) → b ≡ p i → b ≡ false → i < n → false ≡ all_below p n
+below-stop p n i b e h l = sym (below_false p n i l (sym e ∙ h))
 
-pub below-turn : (p : ℕ → Bool) (i : ℕ) (b : Bool) → b ≡ p i → not b ≡ false → all_below p i ≡ true → all_below p (i + 1) ≡ true
-below-turn p i b e h q = rw add-one (below_suc p i q (sym e ∙ not-false b h))
+pub below-turn : (p : ℕ → Bool) (i : ℕ) (b : Bool) → b ≡ p i → b ≡ true → all_below p i ≡ true → all_below p (i + 1) ≡ true
+below-turn p i b e h q = rw add-one (below_suc p i q (sym e ∙ h))
 
 pub below-done : (p : ℕ → Bool) (n i : ℕ) → i ≤ n → n ≤ i → all_below p i ≡ true → true ≡ all_below p n
 below-done p n i a b h = let e : i ≡ n = le_antisymm a b in sym (rw e at h)
@@ -344,23 +347,49 @@ module _ {A : Type 0} where
       go false e = e
 
   -- such a loop over a table, by places
-  pub table-stop : (p : A → Bool) (f : ℕ → A) (n i : ℕ) (b : Bool) → b ≡ p (f i) → not b ≡ true → i < n → false ≡ all p (table f n)
+  pub table-stop : (p : A → Bool) (f : ℕ → A) (n i : ℕ) (b : Bool) → b ≡ p (f i) → b ≡ false → i < n → false ≡ all p (table f n)
   table-stop p f n i b e h l = below-stop (λ j. p (f j)) n i b e h l ∙ sym (all-table p f n)
 
   pub table_done : (p : A → Bool) (f : ℕ → A) (n i : ℕ) → i ≤ n → n ≤ i → all_below (λ j. p (f j)) i ≡ true → true ≡ all p (table f n)
   table_done p f n i a b h = below-done (λ j. p (f j)) n i a b h ∙ sym (all-table p f n)
 
-  -- and by numbers from 1
-  pub each-stop : (q : ℕ → Bool) (f : ℕ → A) (n i : ℕ) (b : Bool) → b ≡ q (i + 1) → not b ≡ true → i < n → false ≡ all_below (λ j. q (suc j)) (length (table f n))
-  each-stop q f n i b e h l = rw (table-length f n) (below-stop (λ j. q (suc j)) n i b (rw add-one at e) h l)
-
-  pub each-done : (q : ℕ → Bool) (f : ℕ → A) (n i : ℕ) → i ≤ n → n ≤ i → all_below (λ j. q (suc j)) i ≡ true → true ≡ all_below (λ j. q (suc j)) (length (table f n))
-  each-done q f n i a b h = rw (table-length f n) (below-done (λ j. q (suc j)) n i a b h)
-
-pub each_turn : (q : ℕ → Bool) (i : ℕ) (b : Bool) → b ≡ q (i + 1) → not b ≡ false → all_below (λ j. q (suc j)) i ≡ true → all_below (λ j. q (suc j)) (i + 1) ≡ true
-each_turn q i b e h g = below-turn (λ j. q (suc j)) i b (rw add-one at e) h g
-
 -- a table that was cleared
+-- what a chain `l.iter().all(..)` answers, in std's word
+pub all-list : {A : Type 0} (p : A → Bool) (l : List A) → list_all p l ≡ all p l
+unfolding all
+all-list p [] = refl
+all-list p (x ∷ l) = ap (λ b. p x && b) (all-list p l)
+
+-- what `v == w` answers of two slices
+pub pointwise-words : (v w : List ℕ) → pointwise eqb v w ≡ same_word v w
+unfolding same_word
+pointwise-words [] [] = refl
+pointwise-words [] (y ∷ w) = refl
+pointwise-words (x ∷ v) [] = refl
+pointwise-words (x ∷ v) (y ∷ w) = ap (λ b. eqb x y && b) (pointwise-words v w)
+
+-- a loop `for t in 1..=n` has come to i: the numbers from 1 on below i pass
+pub record UpTo (q : ℕ → Bool) (i : ℕ) : Type 0 where
+  pub pass : (t : ℕ) → 0 < t → t < i → q t ≡ true
+
+pub upto_none : (q : ℕ → Bool) → UpTo q 1
+upto_none q = record { pass = λ t z h. absurd (omega arith) }
+
+pub upto_more : (q : ℕ → Bool) (i : ℕ) (b : Bool) → UpTo q i → b ≡ q i → b ≡ true → UpTo q (i + 1)
+upto_more q i b u e h =
+    let here : 0 < i → q i ≡ true = λ z. sym e ∙ h in
+    record { pass = λ t z l. below_more (λ k. 0 < k → q k ≡ true) i (λ k m y. u.pass k y m) here t l z }
+
+module _ {A : Type 0} (f : ℕ → A) (q : ℕ → Bool) (n i : ℕ) where
+  pub upto-stop : (b : Bool) → b ≡ q i → b ≡ false → 0 < i → i ≤ n → false ≡ all_below (λ j. q (suc j)) (length (table f n))
+  upto-stop b e h z l = rw (table-length f n) (sym (upto-not i (sym e ∙ h) z l)) where
+    upto-not : (k : ℕ) → q k ≡ false → 0 < k → k ≤ n → all_below (λ j. q (suc j)) n ≡ false
+    upto-not zero e z l = absurd (omega arith)
+    upto-not (suc k) e z l = below_false (λ j. q (suc j)) n k (omega arith) e
+
+  pub upto-done : UpTo q i → n < i → true ≡ all_below (λ j. q (suc j)) (length (table f n))
+  upto-done u h = rw (table-length f n) (sym (below_all (λ j. q (suc j)) n (λ k l. u.pass (suc k) (omega arith) (omega arith))))
+
 pub all-zero : (w i : ℕ) → ◌≡◌ {A = ℕ} (get_or (replicate w 0) i 0) 0
 all-zero zero i = refl
 all-zero (suc w) zero = refl

@@ -20,10 +20,12 @@ use Rattle.records.specs.Rules.{named}
 use Rattle.records.specs.Make.{strk, decimal_by, name_of, is_taken, with_names, name_limit, take_name_by, take_name, number_of, lookup, is_some}
 use Rattle.records.specs.Working.Leaves.{text_of, has_text}
 use Rattle.records.specs.Working.Audited.{Ready}
+use Rattle.std.specs.Prelude.{Ok, Err}
+use Rattle.records.specs.declared.refusal.Refusal.TheVariants.{Names}
 use Rattle.records.specs.Working.Doing.{Taken}
 use Rattle.records.specs.Working.Leaves.{Free}
 use Rattle.records.specs.Working.Puts.{Written}
-use Rattle.records.proofs.Lists.{clash, first-same}
+use Rattle.records.proofs.Lists.{first-same}
 use Rattle.records.proofs.Doing.{ready-names}
 use Rattle.records.proofs.Refines.Making.{texts-within, found-text}
 
@@ -158,11 +160,15 @@ module _ (s : Store) (x : ℕ) (h : Passed s x) where
 
 module _ (t e h r ks : List ℕ) (c : State) (ready : Ready (lent t e h r ks) c) (x : ℕ) (f : Free (store_of (lent t e h r ks) c) x) where
   pub name_taken : (l l' : List ℕ) (n : ℕ) (d : State) → x < name_limit → length l ≡ 15 → length l' ≡ length l → Written l l' 0 (name_of x) n → d ≡ names_at c (x + 1)
-      → Taken (lent t e h r ks) c (record { code = 0; state = d; name = l'; len = n })
+      → Taken (lent t e h r ks) c (Ok (record { state = d; name = l'; len = n }))
   name_taken l l' n d p k s w q =
       let g : take n l' ≡ name_of x = w.words in
       let b = name_here l l' x n k s w in
-      record { says = f.free p ∙ rw (q, add-one x, g); fits = omega arith; ready = subst (Ready (lent t e h r ks)) (sym q) (ready-names (x + 1) ready); stays = λ z. clash refl z }
+      record {
+        says = f.free p ∙ rw (q, add-one x, g);
+        fits = omega arith;
+        ready = subst (Ready (lent t e h r ks)) (sym q) (ready-names (x + 1) ready);
+      }
 
-  pub name_spent : (l : List ℕ) → name_limit ≤ x → Taken (lent t e h r ks) c (record { code = 9; state = c; name = l; len = 0 })
-  name_spent l p = record { says = f.spent p; fits = omega arith; ready = ready; stays = λ z. refl }
+  pub name_spent : name_limit ≤ x → Taken (lent t e h r ks) c (Err Names)
+  name_spent p = record { says = f.spent p; fits = tt; ready = tt }

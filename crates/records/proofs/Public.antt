@@ -1,6 +1,7 @@
 -- The three ways of a public call: the audit refuses, an argument is wrong, or the work is done; and a refusal of the work, after which the
 -- index is cut.
-use Rattle.std.specs.Prelude.{if◌then◌else◌}
+use Rattle.std.specs.Prelude.{Result, Err, is_err, IsErrAnd, if◌then◌else◌}
+use Rattle.std.proofs.lemmas.Result.{err_from_is_err_and}
 use mathlib.Core.Path.{◌≡◌, refl, sym, ap, subst, ◌∙◌}
 use mathlib.Core.Bool.{Bool, true, false}
 use mathlib.Core.List.{List}
@@ -9,6 +10,10 @@ use Prim.Native.Nat.{ℕ, zero, suc, ◌≤◌}
 use native.Mathlib.Omega.{arith}
 use lib.ListN.{length}
 use Rattle.records.specs.declared.State.{State}
+use Rattle.records.specs.declared.refusal.Refusal.{Refusal}
+use Rattle.records.specs.declared.refusal.Refusal.TheVariants.{Sizes, Records, Classes, Congruences, Argument, Reasons, Room, Names, Mark, Form, Index}
+use Rattle.records.specs.declared.refusal.Refusal.TheVariants as refusal
+use Rattle.records.specs.Refusal.{number}
 use Rattle.records.specs.Store.{Store, Out, ok, stop, Work}
 use Rattle.records.specs.View.{Lent, store_of, term_at, term_limit, term_words, sizes}
 use Rattle.records.specs.Index.{bucket, index_rule, SameIndex}
@@ -23,6 +28,21 @@ use Rattle.records.proofs.Outcomes.{Refused}
 use Rattle.records.proofs.IndexLaws.{same_none, cut_back}
 use Rattle.records.proofs.Passed.{ready_of, audit-of}
 use Rattle.records.proofs.Doing.{ready-index}
+
+-- a refusal has a number
+pub numbered : (e : Refusal) → number e ≡ 0 → ⊥
+numbered Sizes q = absurd (omega arith)
+numbered Records q = absurd (omega arith)
+numbered Classes q = absurd (omega arith)
+numbered Congruences q = absurd (omega arith)
+numbered Argument q = absurd (omega arith)
+numbered refusal.List q = absurd (omega arith)
+numbered Reasons q = absurd (omega arith)
+numbered Room q = absurd (omega arith)
+numbered Names q = absurd (omega arith)
+numbered Mark q = absurd (omega arith)
+numbered Form q = absurd (omega arith)
+numbered Index q = absurd (omega arith)
 
 -- where the audit passes, what the work requires holds
 pub passed-ready : (m : Lent) (c : State) (k : ℕ) → k ≡ audit m c → k ≡ 0 → Ready m c
@@ -65,12 +85,12 @@ pub data Undone {A : Type 0} (m₁ m' : Lent) (n : ℕ) (r₁ r : Out A) : Type 
   cut : (k : ℕ) → r₁ ≡ stop k → r ≡ r₁ → Cut m₁.terms m'.terms n → SameOthers m₁ m' → Undone m₁ m' n r₁ r
 
 -- an answer handed on as it is, and a refusal after a cut
-module _ {X : Type 0} (f : X → Bool) (n : ℕ) (x o : X) (e : x ≡ o) where
-  pub handed_on : (l : List ℕ) → f o ≡ false → CutRefused f l l n x o
-  handed_on l q = record { same = sym e; given = λ p. refl; refused = λ p. clash p (ap f e ∙ q) }
+module _ {A : Type 0} (n : ℕ) (x : Result A Refusal) where
+  pub handed_on : (l : List ℕ) → is_err x ≡ false → CutRefused l l n x x
+  handed_on l q = record { same = refl; given = λ p. refl; refused = λ p. clash p q }
 
-  pub handed_cut : (l l' : List ℕ) → f o ≡ true → Cut l l' n → CutRefused f l l' n x o
-  handed_cut l l' q c = record { same = sym e; given = λ p. clash (ap f e ∙ q) p; refused = λ p. c }
+  pub handed_cut : (l l' : List ℕ) → is_err x ≡ true → Cut l l' n → CutRefused l l' n x x
+  handed_cut l l' q c = record { same = refl; given = λ p. clash q p; refused = λ p. c }
 
 -- what a cut asks, of words that are as long as those of entry
 pub cut-asked : {m : Lent} {c : State} → Ready m c → {k : ℕ} → k ≡ length m.terms → (c.terms ≤ term_limit) × (term_words c.terms ≤ k)
@@ -154,3 +174,11 @@ module _ {A : Type 0} (fit : Store → Bool) (work : Work A) (m : Lent) (c : Sta
         back = undone-back (passed-ready m c k verdict ready) w.kept u;
         passes = undone-passes u w.ready;
       }
+
+-- the same of what the audit answers as a Result: a refusal is handed on
+pub call_refused : {A : Type 0} (fit : Store → Bool) (work : Work A) (m : Lent) (c : State) (e : Refusal) → number e ≡ audit m c → Public (call fit work m c) m m c (stop (number e))
+call_refused fit work m c e verdict = call_unready fit work m c (number e) verdict (numbered e)
+
+-- what the exit of a `?` returns: the refusal that was met
+pub handed : {A : Type 0} {e : Refusal} (r : Result A Refusal) → IsErrAnd r (λ x. x ≡ e) → r ≡ Err e
+handed r h = let p = err_from_is_err_and r h in p.1 ∙ ap Err p.2

@@ -9,10 +9,9 @@ use native.Mathlib.Omega.{arith}
 use lib.ListN.{length, length-append}
 use lib.Dec.{ltb, leb}
 use Rattle.records.specs.declared.State.{State}
-use Rattle.records.specs.declared.Made.{Made}
-use Rattle.records.specs.declared.Made.TheVariants.{Term, Refused}
-use Rattle.records.specs.declared.Added.{Added}
-use Rattle.records.specs.declared.Added.TheVariants.{Counts}
+use Rattle.std.specs.Prelude.{Result, Ok, Err}
+use Rattle.records.specs.declared.refusal.Refusal.{Refusal}
+use Rattle.records.specs.Refusal.{number}
 use Rattle.records.specs.Store.{Store, Out, ok, stop, Work, and_then, ◌>>=◌, ◌>>◌, give, refuse, put, count, is_string}
 use Rattle.records.specs.View.{Lent, store_of}
 use Rattle.records.specs.Rules.{named}
@@ -135,32 +134,32 @@ module _ {A B : Type 0} {w : Work A} (f : A → Work B) {m m₁ : Lent} {c : Sta
 
 module _ {m m₁ : Lent} {c : State} where
   -- after a reason or a key was added
-  pub added-at : {w : Work (Unit {0})} {x y : Added} → x ≡ y → Working w m m₁ c (added x m₁) → Working w m m₁ c (added y m₁)
-  added-at e w = working_at (ap (λ (z : Added). added z m₁) e) w
+  pub added-at : {w : Work (Unit {0})} {x y : Result State Refusal} → x ≡ y → Working w m m₁ c (added x m₁) → Working w m m₁ c (added y m₁)
+  added-at e w = working_at (ap (λ (z : Result State Refusal). added z m₁) e) w
 
-  pub added-ready : {w : Work (Unit {0})} {x : Added} {d : State} → x ≡ Counts d → Working w m m₁ c (added x m₁) → Ready m₁ d
+  pub added-ready : {w : Work (Unit {0})} {x : Result State Refusal} {d : State} → x ≡ Ok d → Working w m m₁ c (added x m₁) → Ready m₁ d
   added-ready {d = d} e w = (added-at e w).ready d tt refl
 
   -- after a term was made
-  pub made_at : {w : Work ℕ} {r r₁ : Made} → r ≡ r₁ → Working w m m₁ c (made r m₁) → Working w m m₁ c (made r₁ m₁)
-  made_at e w = working_at (ap (λ (x : Made). made x m₁) e) w
+  pub made_at : {w : Work ℕ} {r r₁ : Result (ℕ × State) Refusal} → r ≡ r₁ → Working w m m₁ c (made r m₁) → Working w m m₁ c (made r₁ m₁)
+  made_at e w = working_at (ap (λ (x : Result (ℕ × State) Refusal). made x m₁) e) w
 
-  pub made-ready : {w : Work ℕ} {r : Made} {t : ℕ} {d : State} → r ≡ Term t d → Working w m m₁ c (made r m₁) → Ready m₁ d
-  made-ready {t = t} {d = d} e w = (made_at e w).ready d t refl
+  pub made-ready : {w : Work ℕ} {r : Result (ℕ × State) Refusal} {x : ℕ × State} → r ≡ Ok x → Working w m m₁ c (made r m₁) → Ready m₁ x.1
+  made-ready {x = x} e w = (made_at e w).ready x.1 x.0 refl
 
-  pub made-stays : {w : Work ℕ} {r : Made} {t : ℕ} {d : State} → Grows w → r ≡ Term t d → Working w m m₁ c (made r m₁) → (v : ℕ) → is_string (store_of m c) v ≡ true → is_string (store_of m₁ d) v ≡ true
-  made-stays {t = t} {d = d} g e w = string-stays m m₁ c d (g.higher (store_of m c) (store_of m₁ d) t (made_at e w).says) w.kept.store
+  pub made-stays : {w : Work ℕ} {r : Result (ℕ × State) Refusal} {x : ℕ × State} → Grows w → r ≡ Ok x → Working w m m₁ c (made r m₁) → (v : ℕ) → is_string (store_of m c) v ≡ true → is_string (store_of m₁ x.1) v ≡ true
+  made-stays {x = x} g e w = string-stays m m₁ c x.1 (g.higher (store_of m c) (store_of m₁ x.1) x.0 (made_at e w).says) w.kept.store
 
-module _ {w : Work ℕ} {m m₁ : Lent} {c : State} {r : Made} where
-  pub made-is : {t : ℕ} {d : State} → r ≡ Term t d → Working w m m₁ c (made r m₁) → Working w m m₁ c (ok (store_of m₁ d) t)
+module _ {w : Work ℕ} {m m₁ : Lent} {c : State} {r : Result (ℕ × State) Refusal} where
+  pub made-is : {x : ℕ × State} → r ≡ Ok x → Working w m m₁ c (made r m₁) → Working w m m₁ c (ok (store_of m₁ x.1) x.0)
   made-is e p = made_at e p
 
-  pub made-stops : {k : ℕ} → r ≡ Refused k → Working w m m₁ c (made r m₁) → Working w m m₁ c (stop k)
+  pub made-stops : {k : Refusal} → r ≡ Err k → Working w m m₁ c (made r m₁) → Working w m m₁ c (stop (number k))
   made-stops e p = made_at e p
 
-module _ {w : Work ℕ} {B : Type 0} (f : ℕ → Work B) {m m₁ : Lent} {c : State} {r : Made} where
-  pub made_then : {t : ℕ} {d : State} → Grows w → r ≡ Term t d → Working w m m₁ c (made r m₁) → {m₂ : Lent} {o : Out B} → Working (f t) m₁ m₂ d o → Working (w >>= f) m m₂ c o
-  made_then {t} {d} g e p q = working_then f d t g (made-is e p) q
+module _ {w : Work ℕ} {B : Type 0} (f : ℕ → Work B) {m m₁ : Lent} {c : State} {r : Result (ℕ × State) Refusal} where
+  pub made_then : {x : ℕ × State} → Grows w → r ≡ Ok x → Working w m m₁ c (made r m₁) → {m₂ : Lent} {o : Out B} → Working (f x.0) m₁ m₂ x.1 o → Working (w >>= f) m m₂ c o
+  made_then {x} g e p q = working_then f x.1 x.0 g (made-is e p) q
 
-  pub made-stop : {k : ℕ} → r ≡ Refused k → Working w m m₁ c (made r m₁) → Working (w >>= f) m m₁ c (stop k)
+  pub made-stop : {k : Refusal} → r ≡ Err k → Working w m m₁ c (made r m₁) → Working (w >>= f) m m₁ c (stop (number k))
   made-stop e p = working_stop f (made-stops e p)

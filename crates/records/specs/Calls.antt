@@ -1,11 +1,9 @@
 -- What every public call promises, in one shape.
-use Rattle.std.specs.Prelude.{◌≡◌, Bool, List, ◌⊎◌, ℕ, zero, suc, ◌≤◌, if◌then◌else◌}
+use Rattle.std.specs.Prelude.{◌≡◌, Bool, List, ◌⊎◌, ℕ, zero, suc, ◌≤◌, Result, Ok, Err, if◌then◌else◌}
 use denote.Triple.Both.{Both}
 use Rattle.records.specs.declared.State.{State}
-use Rattle.records.specs.declared.Made.{Made}
-use Rattle.records.specs.declared.Made.TheVariants.{Term, Refused}
-use Rattle.records.specs.declared.Added.{Added}
-use Rattle.records.specs.declared.Added.TheVariants as adding
+use Rattle.records.specs.declared.refusal.Refusal.{Refusal}
+use Rattle.records.specs.Refusal.{number}
 use Rattle.records.specs.Store.{Store, Out, ok, stop, Work}
 use Rattle.records.specs.View.{Lent, store_of}
 use Rattle.records.specs.View.{Slice}
@@ -65,11 +63,11 @@ module _ {A : Type 0} where
   ◌into◌ f l m = f m l.exit.now
 
 -- the answer of a making call
-abbrev pub made : Made → Lent → Out ℕ
-made (Term t c) m = ok (store_of m c) t
-made (Refused k) m = stop k
+abbrev pub made : Result (ℕ × State) Refusal → Lent → Out ℕ
+made (Ok x) m = ok (store_of m x.1) x.0
+made (Err e) m = stop (number e)
 
 -- the answer of adding a reason or a key
-abbrev pub added : Added → Lent → Out (Unit {0})
-added (adding.Counts c) m = ok (store_of m c) tt
-added (adding.Refused k) m = stop k
+abbrev pub added : Result State Refusal → Lent → Out (Unit {0})
+added (Ok c) m = ok (store_of m c) tt
+added (Err e) m = stop (number e)

@@ -1,4 +1,6 @@
 pub mod Lists
+pub mod Refusal
+pub mod Kind
 pub mod Store
 pub mod View
 pub mod Index

@@ -1,31 +1,30 @@
 // Class roots and forest paths, and the audit of classes and congruence edges (refusals 3 and 4).
-ghost use Rattle.std.specs.Prelude.{◌≡◌, true, not, ◌&&◌, ◌||◌, ◌≤◌, eqb};
+ghost use Rattle.std.specs.Prelude.{ℕ, ◌≡◌, true, not, ◌&&◌, ◌||◌, ◌≤◌, eqb};
 ghost use Rattle.records.specs.Lists.{all, Every};
-ghost use Rattle.records.specs.Working.Leaves.{up_in, levels, Lifted};
+ghost use Rattle.records.specs.Working.Leaves.{levels, Lifted};
 ghost use Rattle.records.specs.Store.{within, chain_in, class_up, forest_up, root_in, top_in, root, top, nearest_in, climb};
 ghost use Rattle.records.specs.View.{term_limit, terms_view, cells_view, termed, chained};
 ghost use Rattle.records.specs.Rules.{each_term, parents_rule, ends_rule, edge_label, label_rule, classes_rule, falls_rule, congruence_rule, edge_rule, congruences_rule};
 ghost use Rattle.records.specs.Working.Leaves.{alone_at, class_test, pair_words, pair_meets};
-ghost use Rattle.records.specs.Working.Audited.{Closed, Rooted, Pathed, TermPair, Congruable};
+ghost use Rattle.records.specs.Working.Audited.{Closed, Steps, Rooted, Pathed, TermPair, Congruable};
 ghost use Rattle.records.specs.Working.Heights.{Heights, Told};
 
-use crate::{State, fields, heights, roots, rules};
+use crate::{Kind, Label, State, fields, heights, roots, rules};
 
 // Where following parents ends, in the forest or in the class. A climb that does not end, in a store that fails the audit, stops after n
 // steps.
-fn climb_unchecked(terms: &[u32], n: usize, t: u32, forest: bool) -> u32
-    requires { (within n t ≡ true) × Closed (up_in forest (terms_view terms.now n)) n }
-    ensures { result ≡ climb (up_in forest (terms_view terms.now n)) n t }
+fn climb_unchecked<F: Fn(u32) -> u32>(n: usize, t: u32, parent: F) -> u32
+    requires callable { F.IsAlwaysCallable parent }
+    requires here { within n t ≡ true }
+    ensures { (up : ℕ → ℕ) → Steps (F.post parent) up n → result ≡ climb up n t }
 {
     let mut x = t;
-    let mut i: usize = 0;
-    while i < n {
-        let y = fields::parent(terms, x, forest);
+    for _ in 0..n {
+        let y = parent(x);
         if y == x {
             return x;
         }
         x = y;
-        i += 1;
     }
     x
 }
@@ -35,7 +34,7 @@ pub fn root_unchecked(terms: &[u32], n: usize, t: u32) -> u32
     requires { (within n t ≡ true) × Closed (class_up (terms_view terms.now n)) n }
     ensures { result ≡ root_in (terms_view terms.now n) t }
 {
-    climb_unchecked(terms, n, t, false)
+    climb_unchecked(n, t, |x| fields::class_parent(terms, x))
 }
 
 // The root of a term's tree in the forest.
@@ -43,7 +42,7 @@ pub fn top_unchecked(terms: &[u32], n: usize, t: u32) -> u32
     requires { (within n t ≡ true) × Closed (forest_up (terms_view terms.now n)) n }
     ensures { result ≡ top_in (terms_view terms.now n) t }
 {
-    climb_unchecked(terms, n, t, true)
+    climb_unchecked(n, t, |x| fields::forest_parent(terms, x))
 }
 
 // Goes up from t as many steps as y is below the root of its tree.
@@ -112,24 +111,18 @@ fn parents_ok(terms: &[u32], c: State, t: u32) -> bool
     requires { within c.terms t ≡ true }
     ensures { result ≡ parents_rule (termed terms.now c) t }
 {
-    let p = fields::class_parent(terms, t);
-    if !rules::is_within(c.terms, p) {
-        return false;
-    }
-    let q = fields::forest_parent(terms, t);
-    rules::is_within(c.terms, q)
+    rules::is_within(c.terms, fields::class_parent(terms, t))
+        && rules::is_within(c.terms, fields::forest_parent(terms, t))
 }
 
 fn parents_hold(terms: &[u32], c: State) -> bool
     requires { c.terms ≤ term_limit }
     ensures { let s = termed terms.now c in result ≡ each_term s (parents_rule s) }
 {
-    let mut i: u32 = 0;
-    while (i as usize) < c.terms {
-        if !parents_ok(terms, c, i + 1) {
+    for t in 1..=c.terms as u32 {
+        if !parents_ok(terms, c, t) {
             return false;
         }
-        i += 1;
     }
     true
 }
@@ -139,53 +132,35 @@ fn ends_ok(terms: &[u32], c: State, t: u32, r: u32, q: u32) -> bool
     requires { Rooted (termed terms.now c) c.terms t r q }
     ensures { result ≡ ends_rule (termed terms.now c) t }
 {
-    let p = fields::class_parent(terms, r);
-    if p != r {
-        return false;
-    }
-    let u = fields::forest_parent(terms, q);
-    u == q
+    fields::class_parent(terms, r) == r && fields::forest_parent(terms, q) == q
 }
 
 // p is the class root of q and u the forest root of r.
 fn alike_ok(r: u32, q: u32, p: u32, u: u32) -> bool
     ensures { result ≡ (eqb p r && eqb u q) }
 {
-    if p != r {
-        return false;
-    }
-    u == q
+    p == r && u == q
 }
 
 fn edge_label_ok(k: u32, v: u32) -> bool
     ensures { result ≡ edge_label k v }
 {
-    match k {
-        1 | 2 => rules::is_number(v),
-        3 => true,
-        4 => v == 0,
-        _ => false,
-    }
+    (rules::is_reason_kind(k) && rules::is_number(v))
+        || k == u32::from(Label::Congruence)
+        || (k == u32::from(Label::Definitional) && v == 0)
 }
 
 fn label_ok(terms: &[u32], c: State, t: u32) -> bool
     requires { within c.terms t ≡ true }
     ensures { result ≡ label_rule (termed terms.now c) t }
 {
-    let p = fields::forest_parent(terms, t);
     let k = fields::label_kind(terms, t);
     let v = fields::label_value(terms, t);
-    if p != t {
-        return edge_label_ok(k, v);
+    if fields::forest_parent(terms, t) == t {
+        k == 0 && v == 0 && fields::stamp(terms, t) == 0
+    } else {
+        edge_label_ok(k, v)
     }
-    if k != 0 {
-        return false;
-    }
-    if v != 0 {
-        return false;
-    }
-    let m = fields::stamp(terms, t);
-    m == 0
 }
 
 fn alone_ok(terms: &[u32], c: State, t: u32) -> bool
@@ -193,32 +168,20 @@ fn alone_ok(terms: &[u32], c: State, t: u32) -> bool
     ensures { result ≡ alone_at (termed terms.now c) t }
 {
     let p = fields::class_parent(terms, t);
-    if p == t {
-        return true;
-    }
-    if !rules::is_string(terms, c.terms, t) {
-        return false;
-    }
-    rules::is_string(terms, c.terms, p)
+    p == t || (rules::is_string(terms, c.terms, t) && rules::is_string(terms, c.terms, p))
 }
 
 // One term's tests, with the roots that were climbed to at hand.
 pub(crate) fn rooted_ok(terms: &[u32], c: State, t: u32, r: u32, q: u32, p: u32, u: u32) -> bool
-    requires fact_1 { let s = termed terms.now c in Rooted s c.terms t r q }
-    requires fact_2 { let s = termed terms.now c in p ≡ root s q }
-    requires fact_3 { let s = termed terms.now c in u ≡ top s r }
+    requires rooted { let s = termed terms.now c in Rooted s c.terms t r q }
+    requires root_is { let s = termed terms.now c in p ≡ root s q }
+    requires top_is { let s = termed terms.now c in u ≡ top s r }
     ensures { result ≡ class_test (termed terms.now c) t }
 {
-    if !ends_ok(terms, c, t, r, q) {
-        return false;
-    }
-    if !alike_ok(r, q, p, u) {
-        return false;
-    }
-    if !label_ok(terms, c, t) {
-        return false;
-    }
-    alone_ok(terms, c, t)
+    ends_ok(terms, c, t, r, q)
+        && alike_ok(r, q, p, u)
+        && label_ok(terms, c, t)
+        && alone_ok(terms, c, t)
 }
 
 fn class_ok(terms: &[u32], c: State, t: u32) -> bool
@@ -236,12 +199,10 @@ fn classes_few(terms: &[u32], c: State) -> bool
     requires { let s = termed terms.now c in (c.terms ≤ term_limit) × (each_term s (parents_rule s) ≡ true) }
     ensures { let s = termed terms.now c in result ≡ each_term s (class_test s) }
 {
-    let mut i: u32 = 0;
-    while (i as usize) < c.terms {
-        if !class_ok(terms, c, i + 1) {
+    for t in 1..=c.terms as u32 {
+        if !class_ok(terms, c, t) {
             return false;
         }
-        i += 1;
     }
     true
 }
@@ -252,9 +213,10 @@ fn classes_hold(terms: &[u32], c: State) -> bool
     ensures { let s = termed terms.now c in result ≡ each_term s (class_test s) }
 {
     if c.terms < 32 {
-        return classes_few(terms, c);
+        classes_few(terms, c)
+    } else {
+        roots::classes_many(terms, c)
     }
-    roots::classes_many(terms, c)
 }
 
 // Refusal 3 is not due.
@@ -262,10 +224,7 @@ pub fn classes_ok_unchecked(terms: &[u32], c: State) -> bool
     requires { c.terms ≤ term_limit }
     ensures { result ≡ classes_rule (termed terms.now c) }
 {
-    if !parents_hold(terms, c) {
-        return false;
-    }
-    classes_hold(terms, c)
+    parents_hold(terms, c) && classes_hold(terms, c)
 }
 
 // THE AUDIT OF CONGRUENCE EDGES
@@ -273,30 +232,17 @@ pub fn classes_ok_unchecked(terms: &[u32], c: State) -> bool
 fn both_ended(n: usize, y: u32, z: u32) -> bool
     ensures { result ≡ (not (within n y) && not (within n z)) }
 {
-    if rules::is_within(n, y) {
-        return false;
-    }
-    !rules::is_within(n, z)
+    !rules::is_within(n, y) && !rules::is_within(n, z)
 }
 
 fn pair_meets(cells: &[u32], n: usize, x: u32, y: u32, z: u32) -> bool
     requires { within n x ≡ true }
     ensures { result ≡ pair_meets (cells_view cells.now n) x y z }
 {
-    if !rules::is_within(n, y) {
-        return false;
-    }
-    if !rules::is_within(n, z) {
-        return false;
-    }
-    let v = fields::value(cells, x);
-    let a = fields::value(cells, y);
-    if v != a {
-        return false;
-    }
-    let o = fields::other(cells, x);
-    let b = fields::value(cells, z);
-    o == b
+    rules::is_within(n, y)
+        && rules::is_within(n, z)
+        && fields::value(cells, x) == fields::value(cells, y)
+        && fields::other(cells, x) == fields::value(cells, z)
 }
 
 // The pair chain from p against the chains from a and b. A chain has at most as many cells as there are, so the walk ends.
@@ -306,8 +252,7 @@ fn pairs_ok(cells: &[u32], n: usize, p: u32, a: u32, b: u32) -> bool
     let mut x = p;
     let mut y = a;
     let mut z = b;
-    let mut i: usize = 0;
-    while i < n {
+    for _ in 0..n {
         if !rules::is_within(n, x) {
             return both_ended(n, y, z);
         }
@@ -317,7 +262,6 @@ fn pairs_ok(cells: &[u32], n: usize, p: u32, a: u32, b: u32) -> bool
         x = fields::next(cells, x);
         y = fields::next(cells, y);
         z = fields::next(cells, z);
-        i += 1;
     }
     true
 }
@@ -330,17 +274,14 @@ fn falls_hold(terms: &[u32], cells: &[u32], c: State, m: u32, p: u32, heights: &
     ensures { let s = termed terms.now c in Told s cells.now heights.new result (all (falls_rule s m) (chain_in (cells_view cells.now c.cells) p)) }
 {
     let mut x = p;
-    let mut i: usize = 0;
-    while i < c.cells {
+    for _ in 0..c.cells {
         if !rules::is_within(c.cells, x) {
             return true;
         }
-        let h = heights::kept_height(terms, cells, c, x, heights);
-        if (m as usize) < h {
+        if (m as usize) < heights::kept_height(terms, cells, c, x, heights) {
             return false;
         }
         x = fields::next(cells, x);
-        i += 1;
     }
     true
 }
@@ -348,52 +289,34 @@ fn falls_hold(terms: &[u32], cells: &[u32], c: State, m: u32, p: u32, heights: &
 fn pairs_either_ok(cells: &[u32], n: usize, p: u32, a: u32, b: u32) -> bool
     ensures { let cs = cells_view cells.now n in result ≡ (pair_words (chain_in cs p) (chain_in cs a) (chain_in cs b) || pair_words (chain_in cs p) (chain_in cs b) (chain_in cs a)) }
 {
-    if pairs_ok(cells, n, p, a, b) {
-        return true;
-    }
-    pairs_ok(cells, n, p, b, a)
+    pairs_ok(cells, n, p, a, b) || pairs_ok(cells, n, p, b, a)
 }
 
 fn congruence_ok(terms: &[u32], cells: &[u32], c: State, t: u32, heights: &mut [usize]) -> bool
     requires congruable { Congruable terms.now cells.now c }
-    requires t_value { within c.terms t ≡ true }
+    requires here { within c.terms t ≡ true }
     requires heights { Heights (termed terms.now c) cells.now heights.old }
     ensures { Told (termed terms.now c) cells.now heights.new result (congruence_rule (chained terms.now cells.now c) t) }
 {
     let u = fields::forest_parent(terms, t);
-    let j = fields::kind(terms, t);
-    if j != 3 {
-        return false;
-    }
-    let k = fields::kind(terms, u);
-    if k != 3 {
-        return false;
-    }
     let p = fields::label_value(terms, t);
     let a = fields::first(terms, t);
     let b = fields::first(terms, u);
-    if !pairs_either_ok(cells, c.cells, p, a, b) {
-        return false;
-    }
-    let m = fields::stamp(terms, t);
-    falls_hold(terms, cells, c, m, p, heights)
+    fields::is_a(terms, t, Kind::Concatenation)
+        && fields::is_a(terms, u, Kind::Concatenation)
+        && pairs_either_ok(cells, c.cells, p, a, b)
+        && falls_hold(terms, cells, c, fields::stamp(terms, t), p, heights)
 }
 
 fn edge_ok(terms: &[u32], cells: &[u32], c: State, t: u32, heights: &mut [usize]) -> bool
     requires congruable { Congruable terms.now cells.now c }
-    requires t_value { within c.terms t ≡ true }
+    requires here { within c.terms t ≡ true }
     requires heights { Heights (termed terms.now c) cells.now heights.old }
     ensures { Told (termed terms.now c) cells.now heights.new result (edge_rule (chained terms.now cells.now c) t) }
 {
-    let u = fields::forest_parent(terms, t);
-    if u == t {
-        return true;
-    }
-    let k = fields::label_kind(terms, t);
-    if k != 3 {
-        return true;
-    }
-    congruence_ok(terms, cells, c, t, heights)
+    fields::forest_parent(terms, t) == t
+        || fields::label_kind(terms, t) != u32::from(Label::Congruence)
+        || congruence_ok(terms, cells, c, t, heights)
 }
 
 fn edges_ok(terms: &[u32], cells: &[u32], c: State, heights: &mut [usize]) -> bool
@@ -401,12 +324,10 @@ fn edges_ok(terms: &[u32], cells: &[u32], c: State, heights: &mut [usize]) -> bo
     requires heights { Heights (termed terms.now c) cells.now heights.old }
     ensures { result ≡ congruences_rule (chained terms.now cells.now c) }
 {
-    let mut i: u32 = 0;
-    while (i as usize) < c.terms {
-        if !edge_ok(terms, cells, c, i + 1, heights) {
+    for t in 1..=c.terms as u32 {
+        if !edge_ok(terms, cells, c, t, heights) {
             return false;
         }
-        i += 1;
     }
     true
 }
@@ -417,13 +338,10 @@ pub fn congruences_ok_unchecked(terms: &[u32], cells: &[u32], c: State) -> bool
     ensures { result ≡ congruences_rule (chained terms.now cells.now c) }
 {
     if c.cells < 64 {
-        let mut none: [usize; 0] = [];
-        return edges_ok(terms, cells, c, &mut none);
+        edges_ok(terms, cells, c, &mut [])
+    } else if c.cells < 512 {
+        edges_ok(terms, cells, c, &mut [0; 512])
+    } else {
+        edges_ok(terms, cells, c, &mut [0; 2049])
     }
-    if c.cells < 512 {
-        let mut some: [usize; 512] = [0; 512];
-        return edges_ok(terms, cells, c, &mut some);
-    }
-    let mut heights: [usize; 2049] = [0; 2049];
-    edges_ok(terms, cells, c, &mut heights)
 }

@@ -1,9 +1,9 @@
 // Reading the records. Each reader is total: a word past the end of its slice reads as 0.
-ghost use Rattle.std.specs.Prelude.{◌≡◌, ◌≤◌, length, get_or};
+ghost use Rattle.std.specs.Prelude.{◌≡◌, ◌≤◌, eqb, length, get_or};
+ghost use Rattle.records.specs.Kind.{kind_number};
 ghost use Rattle.records.specs.View.{term_at, term_words, cell_at};
-ghost use Rattle.records.specs.Working.Leaves.{parent_of};
 
-use crate::{BUCKETS, CELL_WIDTH, TERM_WIDTH};
+use crate::{BUCKETS, CELL_WIDTH, Kind, TERM_WIDTH};
 
 pub fn wide(x: u32) -> usize
     ensures { result ≡ x }
@@ -15,10 +15,7 @@ pub fn wide(x: u32) -> usize
 pub fn word(s: &[u32], i: usize) -> u32
     ensures { result ≡ get_or s.now i 0 }
 {
-    if i < s.len() {
-        return s[i];
-    }
-    0
+    s.get(i).copied().unwrap_or(0)
 }
 
 pub fn kind(terms: &[u32], t: u32) -> u32
@@ -59,16 +56,6 @@ pub fn forest_parent_unchecked(terms: &[u32], t: u32) -> u32
     terms[BUCKETS + TERM_WIDTH * (t as usize) + 4]
 }
 
-// The parent in the forest, or in the class.
-pub(crate) fn parent(terms: &[u32], t: u32, forest: bool) -> u32
-    ensures { result ≡ parent_of forest (term_at terms.now t) }
-{
-    if forest {
-        return forest_parent(terms, t);
-    }
-    class_parent(terms, t)
-}
-
 pub fn label_kind(terms: &[u32], t: u32) -> u32
     ensures { result ≡ (term_at terms.now t).label_kind }
 {
@@ -103,4 +90,11 @@ pub fn next(cells: &[u32], c: u32) -> u32
     ensures { result ≡ (cell_at cells.now c).next }
 {
     word(cells, CELL_WIDTH * (c as usize) + 2)
+}
+
+// Whether a term's record says this kind.
+pub fn is_a(terms: &[u32], t: u32, of: Kind) -> bool
+    ensures { result ≡ eqb (term_at terms.now t).kind (kind_number of) }
+{
+    kind(terms, t) == u32::from(of)
 }

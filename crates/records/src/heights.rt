@@ -1,5 +1,5 @@
 // How high the path of a pair is: the lowest stamp that a congruence edge with this pair may have.
-ghost use Rattle.std.specs.Prelude.{◌≡◌, true, suc, ◌≤◌, max, get_or};
+ghost use Rattle.std.specs.Prelude.{◌≡◌, true, suc, ◌≤◌, max};
 ghost use Rattle.records.specs.Store.{within, forest_up};
 ghost use Rattle.records.specs.View.{term_limit, cell_at, terms_view, termed};
 ghost use Rattle.records.specs.Working.Audited.{Closed, Pathed, TermPair};
@@ -14,11 +14,7 @@ const NEVER: usize = 8589934592;
 fn above(h: usize, m: u32) -> usize
     ensures { result ≡ max h (suc m) }
 {
-    let v = m as usize;
-    if h <= v {
-        return v + 1;
-    }
-    h
+    h.max(m as usize + 1)
 }
 
 // The lowest number above the stamps from y up to x, x left out.
@@ -28,8 +24,7 @@ fn height_up(terms: &[u32], n: usize, y: u32, x: u32) -> usize
 {
     let mut z = y;
     let mut h: usize = 0;
-    let mut i: usize = 0;
-    while i <= n {
+    for _ in 0..=n {
         if z == x {
             return h;
         }
@@ -39,7 +34,6 @@ fn height_up(terms: &[u32], n: usize, y: u32, x: u32) -> usize
             return h;
         }
         z = u;
-        i += 1;
     }
     h
 }
@@ -51,24 +45,10 @@ fn pair_height(terms: &[u32], c: State, a: u32, b: u32) -> usize
 {
     let x = classes::nearest_unchecked(terms, c.terms, a, b);
     if x == 0 {
-        return NEVER;
+        NEVER
+    } else {
+        height_up(terms, c.terms, a, x).max(height_up(terms, c.terms, b, x))
     }
-    let h = height_up(terms, c.terms, a, x);
-    let k = height_up(terms, c.terms, b, x);
-    if h < k {
-        return k;
-    }
-    h
-}
-
-// The number at i, and 0 past the end.
-fn kept(heights: &[usize], i: usize) -> usize
-    ensures { result ≡ get_or heights.now i 0 }
-{
-    if i < heights.len() {
-        return heights[i];
-    }
-    0
 }
 
 // The height of the pair of cell x. Edges can share their cells, so what was found is kept by the cell's number, one added: 0 is not known.
@@ -85,7 +65,7 @@ pub(crate) fn kept_height(
     ensures { KeptHeight (termed terms.now c) cells.now heights.new x result }
 {
     let i = x as usize;
-    let k = kept(heights, i);
+    let k = heights.get(i).copied().unwrap_or(0);
     if k != 0 {
         return k - 1;
     }

@@ -7,11 +7,12 @@ ghost use Rattle.records.specs.View.{buckets, head_at, next_at, text_at, span, t
 ghost use Rattle.records.specs.Index.{bucket_of, bucket, index_rule};
 ghost use Rattle.records.specs.Chained.{Says, Finds};
 ghost use Rattle.records.specs.Working.Audited.{Ascends};
+ghost use Rattle.records.specs.Working.Doing.{CutRefused};
 ghost use Rattle.records.specs.Working.Puts.{TextsWithin};
 ghost use Rattle.records.specs.Working.Indexing.{Walkable, Bucketed, Reached, Tied, cut_at, Cut, word_after, NoneMet, LinksRead};
 
 use crate::rules::is_within;
-use crate::{BUCKETS, State, TERM_WIDTH, fields};
+use crate::{BUCKETS, Kind, Refusal, State, TERM_WIDTH, fields};
 
 // The index that the records determine is the one of which the Note's sentences hold, and the one that passes the test.
 pub fn index_says()
@@ -52,10 +53,8 @@ pub(crate) fn bucket_of(k: u32, l: &[u32]) -> usize
     ensures { result ≡ bucket_of k l.now }
 {
     let mut b = fields::wide(k) % BUCKETS;
-    let mut i: usize = 0;
-    while i < l.len() {
-        b = added(b, l[i]);
-        i += 1;
+    for &x in l {
+        b = added(b, x);
     }
     b
 }
@@ -81,12 +80,10 @@ pub(crate) fn bucket_of_joined(terms: &[u32], chars: &[u32], list: &[u32]) -> us
     ensures { result ≡ bucket_of 1 (concat_map (text_at terms.now chars.now) list.now) }
 {
     let mut b: usize = 1;
-    let mut i: usize = 0;
-    while i < list.len() {
-        let p = fields::wide(fields::first(terms, list[i]));
-        let n = fields::wide(fields::second(terms, list[i]));
+    for &t in list {
+        let p = fields::wide(fields::first(terms, t));
+        let n = fields::wide(fields::second(terms, t));
         b = (b + bucket_of_text(chars, 0, p, n)) % BUCKETS;
-        i += 1;
     }
     b
 }
@@ -107,20 +104,21 @@ fn bucket_of_chain(cells: &[u32], n: usize, f: u32) -> usize
 
 // A term of the store.
 fn bucket_of_term(terms: &[u32], cells: &[u32], chars: &[u32], c: State, t: u32) -> usize
-    requires fact_1 { within c.terms t ≡ true }
-    requires fact_2 { c.chars ≤ length chars.now }
-    requires fact_3 { Bucketed (records_in terms.now cells.now chars.now c) }
+    requires here { within c.terms t ≡ true }
+    requires chars { c.chars ≤ length chars.now }
+    requires bucketed { Bucketed (records_in terms.now cells.now chars.now c) }
     ensures { result ≡ bucket (records_in terms.now cells.now chars.now c) t }
 {
     let k = fields::kind(terms, t);
     let x = fields::first(terms, t);
     let y = fields::second(terms, t);
-    match k {
-        1 => bucket_of_text(chars, 1, fields::wide(x), fields::wide(y)),
-        2 => bucket_of_text(chars, 2, fields::wide(x), fields::wide(y)),
-        3 => bucket_of_chain(cells, c.cells, x),
-        4 => bucket_of_sides(4, x, 0),
-        _ => bucket_of_sides(k, x, y),
+    match Kind::try_from(k) {
+        Ok(Kind::Constant) => bucket_of_text(chars, k, fields::wide(x), fields::wide(y)),
+        Ok(Kind::Variable) => bucket_of_text(chars, k, fields::wide(x), fields::wide(y)),
+        Ok(Kind::Concatenation) => bucket_of_chain(cells, c.cells, x),
+        Ok(Kind::Length) => bucket_of_sides(k, x, 0),
+        Ok(Kind::Equation) => bucket_of_sides(k, x, y),
+        Err(_) => bucket_of_sides(k, x, y),
     }
 }
 
@@ -128,9 +126,9 @@ fn bucket_of_term(terms: &[u32], cells: &[u32], chars: &[u32], c: State, t: u32)
 
 // The place of the word that ends the chain of bucket b: its head's, or the ninth word of its last term.
 fn end_of(terms: &[u32], n: usize, b: usize) -> usize
-    requires fact_1 { n ≤ term_limit }
-    requires fact_2 { b < buckets }
-    requires fact_3 { Walkable terms.now n b }
+    requires limited { n ≤ term_limit }
+    requires bucket { b < buckets }
+    requires walkable { Walkable terms.now n b }
     ensures { Reached terms.now n b result }
 {
     let mut place = b;
@@ -144,10 +142,10 @@ fn end_of(terms: &[u32], n: usize, b: usize) -> usize
 
 // Term n + 1 at the end of the chain of bucket b.
 pub(crate) fn link(terms: &mut [u32], n: usize, b: usize)
-    requires fact_1 { n < term_limit }
-    requires fact_2 { term_words (n + 1) ≤ length terms.old }
-    requires fact_3 { b < buckets }
-    requires fact_4 { Walkable terms.old n b }
+    requires limited { n < term_limit }
+    requires room { term_words (n + 1) ≤ length terms.old }
+    requires bucket { b < buckets }
+    requires walkable { Walkable terms.old n b }
     ensures { Tied terms.old terms.new n b }
 {
     let place = end_of(terms, n, b);
@@ -172,16 +170,28 @@ pub fn cut_unchecked(terms: &mut [u32], n: usize)
     requires fact_2 { term_words n ≤ length terms.old }
     ensures { Cut terms.old terms.new n }
 {
-    let mut b: usize = 0;
-    while b < BUCKETS {
+    for b in 0..BUCKETS {
         cut_word(terms, b, n);
-        b += 1;
     }
-    let mut t: usize = 0;
-    while t < n {
-        t += 1;
+    for t in 1..=n {
         cut_word(terms, BUCKETS + TERM_WIDTH * t + 8, n);
     }
+}
+
+// After a refusal the index names no term that was made on the way.
+pub fn cut_refused_unchecked<T>(
+    terms: &mut [u32],
+    n: usize,
+    r: Result<T, Refusal>,
+) -> Result<T, Refusal>
+    requires n_le_term_limit { n ≤ term_limit }
+    requires terms_in_bounds { term_words n ≤ length terms.old }
+    ensures { CutRefused terms.old terms.new n r result }
+{
+    if r.is_err() {
+        cut_unchecked(terms, n);
+    }
+    r
 }
 
 // THE AUDIT: the word that a bucket has come to must hold the next term of it.
@@ -191,28 +201,26 @@ fn word_after(terms: &[u32], b: usize, t: u32) -> u32
     ensures { result ≡ word_after terms.now b t }
 {
     if t == 0 {
-        return head(terms, b);
+        head(terms, b)
+    } else {
+        next_term(terms, t)
     }
-    next_term(terms, t)
 }
 
 // Each term stands where its bucket has come to. `ends` has the last term of each bucket that was met, 0 where none was.
 fn terms_linked(terms: &[u32], cells: &[u32], chars: &[u32], c: State, ends: &mut [u32; 64]) -> bool
-    requires terms_le_term_limit_1 { c.terms ≤ term_limit }
-    requires terms_le_term_limit_2 { c.chars ≤ length chars.now }
-    requires terms_le_term_limit_3 { Bucketed (records_in terms.now cells.now chars.now c) }
+    requires limited { c.terms ≤ term_limit }
+    requires chars { c.chars ≤ length chars.now }
+    requires bucketed { Bucketed (records_in terms.now cells.now chars.now c) }
     requires none_met { NoneMet ends.old }
     ensures { LinksRead terms.now (bucket (records_in terms.now cells.now chars.now c)) c.terms ends.new result }
 {
-    let mut i: usize = 0;
-    while i < c.terms {
-        let t = (i + 1) as u32;
+    for t in 1..=c.terms as u32 {
         let b = bucket_of_term(terms, cells, chars, c, t);
         if word_after(terms, b, ends[b]) != t {
             return false;
         }
         ends[b] = t;
-        i += 1;
     }
     true
 }
@@ -221,26 +229,21 @@ fn terms_linked(terms: &[u32], cells: &[u32], chars: &[u32], c: State, ends: &mu
 fn chains_end(terms: &[u32], ends: &[u32; 64]) -> bool
     ensures { result ≡ all_below (λ b. eqb (word_after terms.now b (get_or ends.now b 0)) 0) buckets }
 {
-    let mut b: usize = 0;
-    while b < BUCKETS {
+    for b in 0..BUCKETS {
         if word_after(terms, b, ends[b]) != 0 {
             return false;
         }
-        b += 1;
     }
     true
 }
 
 // Heads and ninth words are those of the records (refusal 12).
 pub(crate) fn index_ok(terms: &[u32], cells: &[u32], chars: &[u32], c: State) -> bool
-    requires fact_1 { c.terms ≤ term_limit }
-    requires fact_2 { c.chars ≤ length chars.now }
-    requires fact_3 { Bucketed (records_in terms.now cells.now chars.now c) }
+    requires limited { c.terms ≤ term_limit }
+    requires chars { c.chars ≤ length chars.now }
+    requires bucketed { Bucketed (records_in terms.now cells.now chars.now c) }
     ensures { result ≡ index_rule terms.now (records_in terms.now cells.now chars.now c) }
 {
     let mut ends: [u32; 64] = [0; 64];
-    if !terms_linked(terms, cells, chars, c, &mut ends) {
-        return false;
-    }
-    chains_end(terms, &ends)
+    terms_linked(terms, cells, chars, c, &mut ends) && chains_end(terms, &ends)
 }

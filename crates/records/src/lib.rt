@@ -2,6 +2,7 @@
 #![tactic(auto)]
 
 ghost use Rattle.std.specs.Prelude.{◌≡◌, ◌+◌, ◌<◌, ◌≤◌};
+ghost use Rattle.records.specs.Refusal.{verdict};
 ghost use Rattle.records.specs.Rules.{audit};
 ghost use Rattle.records.specs.View.{term_limit, cell_limit, char_limit, reason_limit, key_limit, one_term, more_cells, more_chars, reasons_at, one_reason, one_key, names_at, counts, across};
 
@@ -10,13 +11,20 @@ pub mod classes;
 pub mod fields;
 mod heights;
 pub mod index;
+pub mod kind;
+pub mod label;
 pub mod make;
 pub mod names;
 pub mod put;
+pub mod refusal;
 pub mod roots;
 pub mod rules;
 pub mod text;
 mod unique;
+
+pub use kind::Kind;
+pub use label::Label;
+pub use refusal::Refusal;
 
 // The heads of the index, which stand before record 0 of terms.
 pub const BUCKETS: usize = 64;
@@ -49,7 +57,7 @@ pub const LIST_LIMIT: usize = 1024;
 
 pub const NAME_LIMIT: u32 = 4294967295;
 
-// The audit: 0, or the first refusal of 1 to 4 and 12 that is due. Nothing is asked of the slices or of the counts.
+// The audit: the first refusal of 1 to 4 and 12 that is due. Nothing is asked of the slices or of the counts.
 pub fn audit(
     terms: &[u32],
     cells: &[u32],
@@ -57,25 +65,25 @@ pub fn audit(
     reasons: &[u32],
     keys: &[u32],
     c: State,
-) -> u32
-    ensures { result ≡ audit (across terms cells chars reasons keys).entry c }
+) -> Result<(), Refusal>
+    ensures { verdict result ≡ audit (across terms cells chars reasons keys).entry c }
 {
     if !rules::sizes(terms, cells, chars, reasons, keys, c) {
-        return 1;
+        return Err(Refusal::Sizes);
     }
     if !rules::records_ok(terms, cells, chars, reasons, keys, c) {
-        return 2;
+        return Err(Refusal::Records);
     }
     if !classes::classes_ok_unchecked(terms, c) {
-        return 3;
+        return Err(Refusal::Classes);
     }
     if !classes::congruences_ok_unchecked(terms, cells, c) {
-        return 4;
+        return Err(Refusal::Congruences);
     }
     if !index::index_ok(terms, cells, chars, c) {
-        return 12;
+        return Err(Refusal::Index);
     }
-    0
+    Ok(())
 }
 
 // How many records of each slice are counted, and the name counter. Record 0 of terms and of cells is not counted.
@@ -89,24 +97,9 @@ pub struct State {
     pub names: u32,
 }
 
-// What a making call answers: the term with the new counts, or the refusal.
-#[derive(Clone, Copy)]
-pub enum Made {
-    Term(u32, State),
-    Refused(u32),
-}
-
-// What adding reasons or a key answers: the new counts, or the refusal.
-#[derive(Clone, Copy)]
-pub enum Added {
-    Counts(State),
-    Refused(u32),
-}
-
-// What taking a name answers: 0, or the refusal; the counts with the counter past the name, or those of entry; the name and its length.
+// A name taken: the counts with the counter past it, the name and its length.
 #[derive(Clone, Copy)]
 pub struct Named {
-    pub code: u32,
     pub state: State,
     pub name: [u32; 15],
     pub len: usize,
@@ -141,11 +134,7 @@ impl State {
     {
         State {
             terms: self.terms + 1,
-            cells: self.cells,
-            chars: self.chars,
-            reasons: self.reasons,
-            keys: self.keys,
-            names: self.names,
+            ..self
         }
     }
 
@@ -154,12 +143,8 @@ impl State {
         ensures { result ≡ more_cells self n }
     {
         State {
-            terms: self.terms,
             cells: self.cells + n,
-            chars: self.chars,
-            reasons: self.reasons,
-            keys: self.keys,
-            names: self.names,
+            ..self
         }
     }
 
@@ -168,26 +153,15 @@ impl State {
         ensures { result ≡ more_chars self n }
     {
         State {
-            terms: self.terms,
-            cells: self.cells,
             chars: self.chars + n,
-            reasons: self.reasons,
-            keys: self.keys,
-            names: self.names,
+            ..self
         }
     }
 
     pub fn with_reasons(self, n: usize) -> State
         ensures { result ≡ reasons_at self n }
     {
-        State {
-            terms: self.terms,
-            cells: self.cells,
-            chars: self.chars,
-            reasons: n,
-            keys: self.keys,
-            names: self.names,
-        }
+        State { reasons: n, ..self }
     }
 
     pub fn with_reason_unchecked(self) -> State
@@ -195,12 +169,8 @@ impl State {
         ensures { result ≡ one_reason self }
     {
         State {
-            terms: self.terms,
-            cells: self.cells,
-            chars: self.chars,
             reasons: self.reasons + 1,
-            keys: self.keys,
-            names: self.names,
+            ..self
         }
     }
 
@@ -209,25 +179,14 @@ impl State {
         ensures { result ≡ one_key self }
     {
         State {
-            terms: self.terms,
-            cells: self.cells,
-            chars: self.chars,
-            reasons: self.reasons,
             keys: self.keys + 1,
-            names: self.names,
+            ..self
         }
     }
 
     pub fn with_names(self, names: u32) -> State
         ensures { result ≡ names_at self names }
     {
-        State {
-            terms: self.terms,
-            cells: self.cells,
-            chars: self.chars,
-            reasons: self.reasons,
-            keys: self.keys,
-            names: names,
-        }
+        State { names, ..self }
     }
 }

@@ -1,50 +1,38 @@
 // Making terms: the lowest-numbered equal record, else one appended.
-ghost use Rattle.std.specs.Prelude.{true, ◌≡◌, suc, ◌+◌, ◌≤◌, leb, length};
+ghost use Rattle.std.specs.Prelude.{ℕ, Bool, true, ◌≡◌, suc, ◌+◌, ◌≤◌, leb, length};
 ghost use Rattle.std.proofs.Math.Option.{none};
 ghost use Rattle.records.specs.Lists.{all, concat_map, first_below};
 ghost use Rattle.records.specs.Store.{within, is_constant, text};
-ghost use Rattle.records.specs.View.{term_limit, term_words, char_limit, char_room, store_of, text_at, lengths, across, changing, lent};
+ghost use Rattle.records.specs.View.{char_limit, char_room, store_of, text_at, lengths, across, changing, lent};
 ghost use Rattle.records.specs.Index.{bucket_of};
+ghost use Rattle.records.specs.Kind.{kind_number};
 ghost use Rattle.records.specs.Rules.{list_limit, named};
 ghost use Rattle.records.specs.Make.{number_of, lookup, make_constant, make_variable, constant_arguments, variable_arguments};
-ghost use Rattle.records.specs.Working.Indexing.{Walkable, Searchable, FirstIn};
+ghost use Rattle.records.specs.Working.Indexing.{Walkable, Searchable, Tests, FirstIn};
 ghost use Rattle.records.specs.Working.Leaves.{has_text, append_text, make_text};
 ghost use Rattle.records.specs.Working.Puts.{TextsWithin};
 ghost use Rattle.records.specs.Working.Audited.{Ready};
 ghost use Rattle.records.specs.Calls.{made, Answers};
-ghost use Rattle.records.specs.Working.Doing.{Does, Builds, CutRefused, unmade};
+ghost use Rattle.records.specs.Working.Doing.{Does, Builds};
 
-use crate::fields::{first, kind, second};
-use crate::index::{bucket_of, bucket_of_joined, cut_unchecked, head, next_term};
+use crate::fields::{first, is_a, second};
+use crate::index::{bucket_of, bucket_of_joined, cut_refused_unchecked, head, next_term};
 use crate::put::{put_term_unchecked, term_fits};
 use crate::rules::chars_ok;
 use crate::text::{
     joined_is_unchecked, joined_length_unchecked, put_joined_unchecked, put_text_unchecked, text_is,
 };
-use crate::{Made, State};
+use crate::{Kind, Refusal, State};
 
-// Whether term t is of kind k and its text is w. Only texts of one length are compared.
-pub(crate) fn has_text(terms: &[u32], chars: &[u32], t: u32, k: u32, w: &[u32]) -> bool
-    ensures { result ≡ has_text terms.now chars.now k w.now t }
-{
-    if kind(terms, t) != k {
-        return false;
-    }
-    let n = second(terms, t) as usize;
-    if n != w.len() {
-        return false;
-    }
-    text_is(chars, first(terms, t), w)
-}
-
-// The first term of the chain of bucket b, of n terms, that is of kind k and whose text is w; 0 where there is none.
-fn walk_text(terms: &[u32], chars: &[u32], n: usize, b: usize, k: u32, w: &[u32]) -> u32
-    requires { Walkable terms.now n b }
-    ensures { FirstIn terms.now b (has_text terms.now chars.now k w.now) result }
+// The first term of the chain of bucket b, of n terms, that passes: the lowest-numbered that lies there. 0 where none passes.
+pub(crate) fn first_in<F: Fn(u32) -> bool>(terms: &[u32], n: usize, b: usize, passes: F) -> u32
+    requires callable { F.IsAlwaysCallable passes }
+    requires walkable { Walkable terms.now n b }
+    ensures { (p : ℕ → Bool) → Tests (F.post passes) p → FirstIn terms.now b p result }
 {
     let mut t = head(terms, b);
     while t != 0 {
-        if has_text(terms, chars, t, k, w) {
+        if passes(t) {
             return t;
         }
         t = next_term(terms, t);
@@ -52,12 +40,20 @@ fn walk_text(terms: &[u32], chars: &[u32], n: usize, b: usize, k: u32, w: &[u32]
     0
 }
 
-// The lowest-numbered of n terms that is of kind k and whose text is w; 0 where there is none.
-pub(crate) fn find_text_unchecked(terms: &[u32], chars: &[u32], n: usize, k: u32, w: &[u32]) -> u32
-    requires { Searchable terms.now n (bucket_of k w.now) (has_text terms.now chars.now k w.now) }
-    ensures { result ≡ number_of (first_below (λ i. has_text terms.now chars.now k w.now (suc i)) n) }
+// Whether term t is of kind k and its text is w. Only texts of one length are compared.
+pub(crate) fn has_text(terms: &[u32], chars: &[u32], t: u32, k: Kind, w: &[u32]) -> bool
+    ensures { result ≡ has_text terms.now chars.now (kind_number k) w.now t }
 {
-    walk_text(terms, chars, n, bucket_of(k, w), k, w)
+    is_a(terms, t, k) && second(terms, t) as usize == w.len() && text_is(chars, first(terms, t), w)
+}
+
+// The lowest-numbered of n terms that is of kind k and whose text is w; 0 where there is none.
+pub(crate) fn find_text_unchecked(terms: &[u32], chars: &[u32], n: usize, k: Kind, w: &[u32]) -> u32
+    requires { Searchable terms.now n (bucket_of (kind_number k) w.now) (has_text terms.now chars.now (kind_number k) w.now) }
+    ensures { result ≡ number_of (first_below (λ i. has_text terms.now chars.now (kind_number k) w.now (suc i)) n) }
+{
+    let b = bucket_of(k.into(), w);
+    first_in(terms, n, b, |t| has_text(terms, chars, t, k, w))
 }
 
 // k characters more fit.
@@ -79,24 +75,31 @@ fn append_text(
     reasons: &[u32],
     keys: &[u32],
     c: State,
-    k: u32,
+    k: Kind,
     w: &[u32],
-) -> Made
+) -> Result<(u32, State), Refusal>
     requires fact_1 { Ready (lent terms.old cells.now chars.old reasons.now keys.now) c }
-    requires fact_2 { within 2 k ≡ true }
-    ensures { Builds (append_text k w.now) (across (changing terms) cells (changing chars) reasons keys) c (made result) }
+    requires fact_2 { within 2 (kind_number k) ≡ true }
+    ensures { Builds (append_text (kind_number k) w.now) (across (changing terms) cells (changing chars) reasons keys) c (made result) }
 {
     if !text_fits(chars, c.chars, w.len()) {
-        return Made::Refused(8);
+        return Err(Refusal::Room);
     }
     if !term_fits(terms, c.terms) {
-        return Made::Refused(8);
+        return Err(Refusal::Room);
     }
     let n = c.terms;
     put_text_unchecked(chars, c.chars, w);
-    put_term_unchecked(terms, n, k, c.chars as u32, w.len() as u32, bucket_of(k, w));
+    put_term_unchecked(
+        terms,
+        n,
+        k.into(),
+        c.chars as u32,
+        w.len() as u32,
+        bucket_of(k.into(), w),
+    );
     let d = c.with_chars(w.len());
-    Made::Term((n + 1) as u32, d.with_term())
+    Ok(((n + 1) as u32, d.with_term()))
 }
 
 // The constant (kind 1) or variable (kind 2) whose text is w.
@@ -107,16 +110,16 @@ fn make_text(
     reasons: &[u32],
     keys: &[u32],
     c: State,
-    k: u32,
+    k: Kind,
     w: &[u32],
-) -> Made
+) -> Result<(u32, State), Refusal>
     requires fact_1 { Ready (lent terms.old cells.now chars.old reasons.now keys.now) c }
-    requires fact_2 { within 2 k ≡ true }
-    ensures { Builds (make_text k w.now) (across (changing terms) cells (changing chars) reasons keys) c (made result) }
+    requires fact_2 { within 2 (kind_number k) ≡ true }
+    ensures { Builds (make_text (kind_number k) w.now) (across (changing terms) cells (changing chars) reasons keys) c (made result) }
 {
     let t = find_text_unchecked(terms, chars, c.terms, k, w);
     if t != 0 {
-        return Made::Term(t, c);
+        return Ok((t, c));
     }
     append_text(terms, cells, chars, reasons, keys, c, k, w)
 }
@@ -129,12 +132,12 @@ pub fn make_constant_unchecked(
     keys: &[u32],
     c: State,
     w: &[u32],
-) -> Made
+) -> Result<(u32, State), Refusal>
     requires ready { Ready (lent terms.old cells.now chars.old reasons.now keys.now) c }
     requires c_value { constant_arguments w.now (store_of (lent terms.old cells.now chars.old reasons.now keys.now) c) ≡ true }
     ensures { Does (make_constant w.now) (across (changing terms) cells (changing chars) reasons keys) c (made result) }
 {
-    make_text(terms, cells, chars, reasons, keys, c, 1, w)
+    make_text(terms, cells, chars, reasons, keys, c, Kind::Constant, w)
 }
 
 pub(crate) fn make_variable_unchecked(
@@ -145,12 +148,12 @@ pub(crate) fn make_variable_unchecked(
     keys: &[u32],
     c: State,
     w: &[u32],
-) -> Made
+) -> Result<(u32, State), Refusal>
     requires ready { Ready (lent terms.old cells.now chars.old reasons.now keys.now) c }
     requires c_value { variable_arguments w.now (store_of (lent terms.old cells.now chars.old reasons.now keys.now) c) ≡ true }
     ensures { Does (make_variable w.now) (across (changing terms) cells (changing chars) reasons keys) c (made result) }
 {
-    make_text(terms, cells, chars, reasons, keys, c, 2, w)
+    make_text(terms, cells, chars, reasons, keys, c, Kind::Variable, w)
 }
 
 // The variable of a name that no variable has: it is not looked for.
@@ -162,13 +165,13 @@ pub fn make_new_variable_unchecked(
     keys: &[u32],
     c: State,
     w: &[u32],
-) -> Made
+) -> Result<(u32, State), Refusal>
     requires ready { Ready (lent terms.old cells.now chars.old reasons.now keys.now) c }
     requires c_value { variable_arguments w.now (store_of (lent terms.old cells.now chars.old reasons.now keys.now) c) ≡ true }
     requires c_value_2 { lookup (named w.now) (store_of (lent terms.old cells.now chars.old reasons.now keys.now) c) ≡ none }
     ensures { Does (make_variable w.now) (across (changing terms) cells (changing chars) reasons keys) c (made result) }
 {
-    append_text(terms, cells, chars, reasons, keys, c, 2, w)
+    append_text(terms, cells, chars, reasons, keys, c, Kind::Variable, w)
 }
 
 // Whether term t is the constant of the joined texts of a list, of `total` characters. Only texts of one length are compared.
@@ -178,32 +181,9 @@ fn has_joined(terms: &[u32], chars: &[u32], t: u32, list: &[u32], total: usize) 
     requires total_value { total ≡ lengths terms.now list.now }
     ensures { result ≡ has_text terms.now chars.now 1 (concat_map (text_at terms.now chars.now) list.now) t }
 {
-    if kind(terms, t) != 1 {
-        return false;
-    }
-    let n = second(terms, t) as usize;
-    if n != total {
-        return false;
-    }
-    joined_is_unchecked(terms, chars, first(terms, t), list)
-}
-
-// The first term of the chain of bucket b, of n terms, that is the constant of the joined texts of a list; 0 where there is none.
-fn walk_joined(terms: &[u32], chars: &[u32], n: usize, b: usize, list: &[u32], total: usize) -> u32
-    requires walkable { Walkable terms.now n b }
-    requires list_len_bound { length list.now ≤ list_limit }
-    requires texts_within { TextsWithin terms.now (length chars.now) list.now }
-    requires total_value { total ≡ lengths terms.now list.now }
-    ensures { let w = concat_map (text_at terms.now chars.now) list.now in FirstIn terms.now b (has_text terms.now chars.now 1 w) result }
-{
-    let mut t = head(terms, b);
-    while t != 0 {
-        if has_joined(terms, chars, t, list, total) {
-            return t;
-        }
-        t = next_term(terms, t);
-    }
-    0
+    is_a(terms, t, Kind::Constant)
+        && second(terms, t) as usize == total
+        && joined_is_unchecked(terms, chars, first(terms, t), list)
 }
 
 // The lowest-numbered of n terms that is the constant of the joined texts of a list, which lies in bucket b; 0 where there is none.
@@ -214,7 +194,7 @@ fn find_joined(terms: &[u32], chars: &[u32], n: usize, b: usize, list: &[u32], t
     requires total_value { total ≡ lengths terms.now list.now }
     ensures { let w = concat_map (text_at terms.now chars.now) list.now in result ≡ number_of (first_below (λ i. has_text terms.now chars.now 1 w (suc i)) n) }
 {
-    walk_joined(terms, chars, n, b, list, total)
+    first_in(terms, n, b, |t| has_joined(terms, chars, t, list, total))
 }
 
 // The constant of the joined texts of a list of constants. It is looked for first; a joined word that does not fit is never built. It is built in the
@@ -227,7 +207,7 @@ pub fn join_constants_unchecked(
     keys: &[u32],
     c: State,
     list: &[u32],
-) -> Made
+) -> Result<(u32, State), Refusal>
     requires ready { Ready (lent terms.old cells.now chars.old reasons.now keys.now) c }
     requires list_len_bound { length list.now ≤ list_limit }
     requires list_value { all (is_constant (store_of (lent terms.old cells.now chars.old reasons.now keys.now) c)) list.now ≡ true }
@@ -237,34 +217,26 @@ pub fn join_constants_unchecked(
     let b = bucket_of_joined(terms, chars, list);
     let t = find_joined(terms, chars, c.terms, b, list, total);
     if t != 0 {
-        return Made::Term(t, c);
+        return Ok((t, c));
     }
     if !text_fits(chars, c.chars, total) {
-        return Made::Refused(8);
+        return Err(Refusal::Room);
     }
     if !term_fits(terms, c.terms) {
-        return Made::Refused(8);
+        return Err(Refusal::Room);
     }
     let n = c.terms;
     put_joined_unchecked(terms, chars, list, c.chars);
-    put_term_unchecked(terms, n, 1, c.chars as u32, total as u32, b);
+    put_term_unchecked(
+        terms,
+        n,
+        Kind::Constant.into(),
+        c.chars as u32,
+        total as u32,
+        b,
+    );
     let d = c.with_chars(total);
-    Made::Term((n + 1) as u32, d.with_term())
-}
-
-// After a refusal, heads and ninth words of n terms that name a later one are 0 again.
-pub(crate) fn cut_refused(terms: &mut [u32], n: usize, r: Made) -> Made
-    requires fact_1 { n ≤ term_limit }
-    requires fact_2 { term_words n ≤ length terms.old }
-    ensures { CutRefused unmade terms.old terms.new n r result }
-{
-    match r {
-        Made::Term(t, d) => Made::Term(t, d),
-        Made::Refused(k) => {
-            cut_unchecked(terms, n);
-            Made::Refused(k)
-        }
-    }
+    Ok(((n + 1) as u32, d.with_term()))
 }
 
 // The constant of a word.
@@ -276,18 +248,15 @@ pub fn make_constant(
     keys: &[u32],
     c: State,
     w: &[u32],
-) -> Made
+) -> Result<(u32, State), Refusal>
     ensures { Answers (constant_arguments w.now) (make_constant w.now) (across (changing terms) cells (changing chars) reasons keys) c (made result) }
 {
-    let k = crate::audit(terms, cells, chars, reasons, keys, c);
-    if k != 0 {
-        return Made::Refused(k);
-    }
-    if !chars_ok(w, w.len()) {
-        return Made::Refused(5);
+    crate::audit(terms, cells, chars, reasons, keys, c)?;
+    if !chars_ok(w) {
+        return Err(Refusal::Argument);
     }
     let r = make_constant_unchecked(terms, cells, chars, reasons, keys, c, w);
-    cut_refused(terms, c.terms, r)
+    cut_refused_unchecked(terms, c.terms, r)
 }
 
 // The variable of a name.
@@ -299,19 +268,16 @@ pub fn make_variable(
     keys: &[u32],
     c: State,
     w: &[u32],
-) -> Made
+) -> Result<(u32, State), Refusal>
     ensures { Answers (variable_arguments w.now) (make_variable w.now) (across (changing terms) cells (changing chars) reasons keys) c (made result) }
 {
-    let k = crate::audit(terms, cells, chars, reasons, keys, c);
-    if k != 0 {
-        return Made::Refused(k);
-    }
+    crate::audit(terms, cells, chars, reasons, keys, c)?;
     if w.len() == 0 {
-        return Made::Refused(5);
+        return Err(Refusal::Argument);
     }
-    if !chars_ok(w, w.len()) {
-        return Made::Refused(5);
+    if !chars_ok(w) {
+        return Err(Refusal::Argument);
     }
     let r = make_variable_unchecked(terms, cells, chars, reasons, keys, c, w);
-    cut_refused(terms, c.terms, r)
+    cut_refused_unchecked(terms, c.terms, r)
 }

@@ -8,7 +8,7 @@ ghost use Rattle.records.specs.Working.Doing.{Taken};
 ghost use Rattle.records.specs.Working.Leaves.{Free};
 
 use crate::make::find_text_unchecked;
-use crate::{Named, State};
+use crate::{Kind, Named, Refusal, State};
 
 // The number x in decimal from place `at` on, n digits at most: the higher digits first, then the last. Answers the place after it.
 fn put_decimal(name: &mut [u32], at: usize, n: usize, x: u32) -> usize
@@ -55,7 +55,7 @@ fn is_taken(
 {
     let mut name: [u32; 15] = [0; 15];
     let len = put_name(&mut name, x);
-    find_text_unchecked(terms, chars, c.terms, 2, &name[..len]) != 0
+    find_text_unchecked(terms, chars, c.terms, Kind::Variable, &name[..len]) != 0
 }
 
 // The first counter from c's on whose name no variable has; the limit where there is none below it.
@@ -70,14 +70,12 @@ fn free_name(
     requires { Ready (lent terms.now cells.now chars.now reasons.now keys.now) c }
     ensures { Free (store_of (across terms cells chars reasons keys).entry c) result }
 {
-    let mut x = c.names;
-    while x < crate::NAME_LIMIT {
+    for x in c.names..crate::NAME_LIMIT {
         if !is_taken(terms, cells, chars, reasons, keys, c, x) {
             return x;
         }
-        x += 1;
     }
-    x
+    crate::NAME_LIMIT
 }
 
 // The next free name, with the counter past it.
@@ -88,25 +86,19 @@ pub fn take_name_unchecked(
     reasons: &[u32],
     keys: &[u32],
     c: State,
-) -> Named
+) -> Result<Named, Refusal>
     requires { Ready (lent terms.now cells.now chars.now reasons.now keys.now) c }
     ensures { Taken (across terms cells chars reasons keys).entry c result }
 {
-    let mut name: [u32; 15] = [0; 15];
     let x = free_name(terms, cells, chars, reasons, keys, c);
-    if x < crate::NAME_LIMIT {
-        let len = put_name(&mut name, x);
-        return Named {
-            code: 0,
-            state: c.with_names(x + 1),
-            name: name,
-            len: len,
-        };
+    if x >= crate::NAME_LIMIT {
+        return Err(Refusal::Names);
     }
-    Named {
-        code: 9,
-        state: c,
-        name: name,
-        len: 0,
-    }
+    let mut name: [u32; 15] = [0; 15];
+    let len = put_name(&mut name, x);
+    Ok(Named {
+        state: c.with_names(x + 1),
+        name,
+        len,
+    })
 }

@@ -1,5 +1,5 @@
 // Writing records above the counts: terms, cells, reasons and keys; and what joins classes, in a term's record.
-ghost use Rattle.std.specs.Prelude.{true, ◌≡◌, ◌+◌, ◌*◌, ◌/◌, ◌<◌, ◌≤◌, min, max, ltb, leb, length};
+ghost use Rattle.std.specs.Prelude.{true, ◌≡◌, ◌+◌, ◌*◌, ◌/◌, ◌<◌, ◌≤◌, min, ltb, leb, length};
 ghost use Rattle.records.specs.Lists.{any};
 ghost use Rattle.records.specs.View.{buckets, term_limit, cell_limit, term_at, term_words, cell_words, term_room, cell_room, pair_at, pairs_view, store_of, across, changing, lent};
 ghost use Rattle.records.specs.Rules.{key_rule};
@@ -11,16 +11,13 @@ ghost use Rattle.records.specs.Working.Audited.{Ready};
 ghost use Rattle.records.specs.Working.Doing.{Does};
 
 use crate::index::link;
-use crate::{BUCKETS, CELL_WIDTH, TERM_WIDTH};
+use crate::{BUCKETS, CELL_WIDTH, Refusal, State, TERM_WIDTH};
 
 // One term more fits.
 pub(crate) fn term_fits(terms: &[u32], n: usize) -> bool
     ensures { result ≡ ltb n (term_room terms.now) }
 {
-    if n < crate::TERM_LIMIT {
-        return BUCKETS + TERM_WIDTH * (n + 2) <= terms.len();
-    }
-    false
+    n < crate::TERM_LIMIT && BUCKETS + TERM_WIDTH * (n + 2) <= terms.len()
 }
 
 // Record n + 1, which is its own class, at the end of the chain of bucket b: the words above the count are free, so all nine are written.
@@ -32,10 +29,10 @@ pub(crate) fn put_term_unchecked(
     second: u32,
     b: usize,
 )
-    requires fact_1 { n < term_limit }
-    requires fact_2 { term_words (n + 1) ≤ length terms.old }
-    requires fact_3 { b < buckets }
-    requires fact_4 { Walkable terms.old n b }
+    requires limited { n < term_limit }
+    requires room { term_words (n + 1) ≤ length terms.old }
+    requires bucket { b < buckets }
+    requires walkable { Walkable terms.old n b }
     ensures { TermPut terms.old terms.new n kind first second b }
 {
     link(terms, n, b);
@@ -44,8 +41,8 @@ pub(crate) fn put_term_unchecked(
 
 // The words of record n + 1; no term comes after it yet.
 fn put_words(terms: &mut [u32], n: usize, kind: u32, first: u32, second: u32)
-    requires fact_1 { n < term_limit }
-    requires fact_2 { term_words (n + 1) ≤ length terms.old }
+    requires limited { n < term_limit }
+    requires room { term_words (n + 1) ≤ length terms.old }
     ensures { WordsPut terms.old terms.new n kind first second }
 {
     let at = BUCKETS + TERM_WIDTH * (n + 1);
@@ -83,19 +80,16 @@ pub fn put_edge_unchecked(terms: &mut [u32], t: u32, parent: u32, kind: u32, val
 
 // k cells more fit.
 pub(crate) fn cells_fit(cells: &[u32], n: usize, k: usize) -> bool
-    requires fact_1 { n ≤ cell_limit }
-    requires fact_2 { cell_words n ≤ length cells.now }
+    requires limited { n ≤ cell_limit }
+    requires room { cell_words n ≤ length cells.now }
     ensures { result ≡ leb (n + k) (cell_room cells.now) }
 {
-    if k <= crate::CELL_LIMIT - n {
-        return CELL_WIDTH * (n + k + 1) <= cells.len();
-    }
-    false
+    k <= crate::CELL_LIMIT - n && CELL_WIDTH * (n + k + 1) <= cells.len()
 }
 
 fn put_cell(cells: &mut [u32], n: usize, value: u32, next: u32)
-    requires fact_1 { n < cell_limit }
-    requires fact_2 { cell_words (n + 1) ≤ length cells.old }
+    requires limited { n < cell_limit }
+    requires room { cell_words (n + 1) ≤ length cells.old }
     ensures { CellPut cells.old cells.new n value next }
 {
     let at = CELL_WIDTH * (n + 1);
@@ -106,18 +100,16 @@ fn put_cell(cells: &mut [u32], n: usize, value: u32, next: u32)
 
 // A chain of the values of l, from record n + 1 on: each cell names the one after it, and the last names none.
 pub(crate) fn put_chain_unchecked(cells: &mut [u32], n: usize, l: &[u32])
-    requires fact_1 { n + length l.now ≤ cell_limit }
-    requires fact_2 { cell_words (n + length l.now) ≤ length cells.old }
+    requires limited { n + length l.now ≤ cell_limit }
+    requires room { cell_words (n + length l.now) ≤ length cells.old }
     ensures { ChainPut cells.old cells.new n l.now }
 {
-    if l.len() == 0 {
+    if l.is_empty() {
         return;
     }
     let last = l.len() - 1;
-    let mut i: usize = 0;
-    while i < last {
+    for i in 0..last {
         put_cell(cells, n + i, l[i], (n + i + 2) as u32);
-        i += 1;
     }
     put_cell(cells, n + last, l[last], 0);
 }
@@ -126,10 +118,7 @@ pub(crate) fn put_chain_unchecked(cells: &mut [u32], n: usize, l: &[u32])
 fn pair_fits(pairs: &[u32], limit: usize, n: usize) -> bool
     ensures { result ≡ ltb n (min limit (length pairs.now / 2)) }
 {
-    if n < limit {
-        return n < pairs.len() / 2;
-    }
-    false
+    n < limit.min(pairs.len() / 2)
 }
 
 fn push_pair(pairs: &mut [u32], n: usize, a: u32, b: u32)
@@ -144,29 +133,11 @@ fn push_pair(pairs: &mut [u32], n: usize, a: u32, b: u32)
 pub fn push_reason_unchecked(reasons: &mut [u32], n: usize, kind: u32, value: u32) -> bool
     ensures { Pushed reasons.old reasons.new n kind value result }
 {
-    if pair_fits(reasons, crate::REASON_LIMIT, n) {
+    let fits = pair_fits(reasons, crate::REASON_LIMIT, n);
+    if fits {
         push_pair(reasons, n, kind, value);
-        return true;
     }
-    false
-}
-
-fn lower(a: u32, b: u32) -> u32
-    ensures { result ≡ min a b }
-{
-    if a < b {
-        return a;
-    }
-    b
-}
-
-pub(crate) fn higher(a: u32, b: u32) -> u32
-    ensures { result ≡ max a b }
-{
-    if a < b {
-        return b;
-    }
-    a
+    fits
 }
 
 pub fn add_key_unchecked(
@@ -175,41 +146,36 @@ pub fn add_key_unchecked(
     chars: &[u32],
     reasons: &[u32],
     keys: &mut [u32],
-    c: crate::State,
+    c: State,
     a: u32,
     b: u32,
-) -> crate::Added
+) -> Result<State, Refusal>
     requires ready { Ready (lent terms.now cells.now chars.now reasons.now keys.old) c }
     requires b_value { key_rule (store_of (lent terms.now cells.now chars.now reasons.now keys.old) c) (ordered a b) ≡ true }
     ensures { Does (add_key a b) (across terms cells chars reasons (changing keys)) c (added result) }
 {
     if pair_fits(keys, crate::KEY_LIMIT, c.keys) {
-        push_pair(keys, c.keys, lower(a, b), higher(a, b));
-        return crate::Added::Counts(c.with_key());
+        push_pair(keys, c.keys, a.min(b), a.max(b));
+        return Ok(c.with_key());
     }
-    crate::Added::Refused(8)
+    Err(Refusal::Room)
 }
 
 pub fn pair_is_unchecked(pairs: &[u32], i: usize, a: u32, b: u32) -> bool
     requires { 2 * i + 2 ≤ length pairs.now }
     ensures { result ≡ same_pair (a, b) (pair_at pairs.now i) }
 {
-    if b == pairs[2 * i + 1] {
-        return a == pairs[2 * i];
-    }
-    false
+    b == pairs[2 * i + 1] && a == pairs[2 * i]
 }
 
 fn has_pair(pairs: &[u32], n: usize, a: u32, b: u32) -> bool
     requires { 2 * n ≤ length pairs.now }
     ensures { result ≡ any (same_pair (a, b)) (pairs_view pairs.now n) }
 {
-    let mut i: usize = 0;
-    while i < n {
+    for i in 0..n {
         if pair_is_unchecked(pairs, i, a, b) {
             return true;
         }
-        i += 1;
     }
     false
 }
@@ -218,5 +184,5 @@ pub fn is_key_unchecked(keys: &[u32], n: usize, a: u32, b: u32) -> bool
     requires { 2 * n ≤ length keys.now }
     ensures { result ≡ any (same_pair (ordered a b)) (pairs_view keys.now n) }
 {
-    has_pair(keys, n, lower(a, b), higher(a, b))
+    has_pair(keys, n, a.min(b), a.max(b))
 }

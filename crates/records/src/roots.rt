@@ -1,36 +1,34 @@
 // The audit of classes by roots that are kept. Terms of one class share their way up to its root, and it can be as long as there are terms: so
 // the roots that were climbed to are kept by number, and a climb stops at a term whose root is kept.
-ghost use Rattle.std.specs.Prelude.{◌≡◌, true, ◌≤◌, ◌<◌, set};
+ghost use Rattle.std.specs.Prelude.{ℕ, ◌≡◌, true, ◌≤◌, ◌<◌, set};
 ghost use Rattle.records.specs.Store.{within, climb, class_up, forest_up, root_in, top_in};
 ghost use Rattle.records.specs.View.{term_limit, terms_view, termed};
 ghost use Rattle.records.specs.Rules.{each_term, parents_rule};
-ghost use Rattle.records.specs.Working.Leaves.{class_test, up_in};
-ghost use Rattle.records.specs.Working.Audited.{Closed};
+ghost use Rattle.records.specs.Working.Leaves.{class_test};
+ghost use Rattle.records.specs.Working.Audited.{Closed, Steps};
 ghost use Rattle.records.specs.Working.ClimbEnds.{Ends, Kept, Tested};
 
 use crate::{State, classes, fields};
 
 // Where following parents ends, as climb_unchecked has it.
-fn kept_end_unchecked(terms: &[u32], n: usize, t: u32, ends: &[u32; 513], forest: bool) -> u32
-    requires n_le_term_limit { n ≤ term_limit }
-    requires t_value { within n t ≡ true }
-    requires closed { Closed (up_in forest (terms_view terms.now n)) n }
-    requires ends { Ends (up_in forest (terms_view terms.now n)) n ends.now }
-    ensures { result ≡ climb (up_in forest (terms_view terms.now n)) n t }
+fn kept_end_unchecked<F: Fn(u32) -> u32>(n: usize, t: u32, ends: &[u32; 513], parent: F) -> u32
+    requires callable { F.IsAlwaysCallable parent }
+    requires limited { n ≤ term_limit }
+    requires here { within n t ≡ true }
+    requires steps { (up : ℕ → ℕ) × Steps (F.post parent) up n }
+    ensures { (up : ℕ → ℕ) → Steps (F.post parent) up n → Ends up n ends.now → result ≡ climb up n t }
 {
     let mut x = t;
-    let mut i: usize = 0;
-    while i < n {
+    for _ in 0..n {
         let r = ends[x as usize];
         if r != 0 {
             return r;
         }
-        let y = fields::parent(terms, x, forest);
+        let y = parent(x);
         if y == x {
             return x;
         }
         x = y;
-        i += 1;
     }
     x
 }
@@ -43,18 +41,18 @@ pub fn kept_root_unchecked(terms: &[u32], n: usize, t: u32, roots: &[u32; 513]) 
     requires ends { Ends (class_up (terms_view terms.now n)) n roots.now }
     ensures { result ≡ root_in (terms_view terms.now n) t }
 {
-    kept_end_unchecked(terms, n, t, roots, false)
+    kept_end_unchecked(n, t, roots, |x| fields::class_parent(terms, x))
 }
 
 // The root of t's tree in the forest, likewise.
 fn kept_top_unchecked(terms: &[u32], n: usize, t: u32, tops: &[u32; 513]) -> u32
-    requires n_le_term_limit { n ≤ term_limit }
-    requires t_value { within n t ≡ true }
+    requires limited { n ≤ term_limit }
+    requires here { within n t ≡ true }
     requires closed { Closed (forest_up (terms_view terms.now n)) n }
     requires ends { Ends (forest_up (terms_view terms.now n)) n tops.now }
     ensures { result ≡ top_in (terms_view terms.now n) t }
 {
-    kept_end_unchecked(terms, n, t, tops, true)
+    kept_end_unchecked(n, t, tops, |x| fields::forest_parent(terms, x))
 }
 
 // One end for two terms.
@@ -74,10 +72,10 @@ fn class_kept_ok(
     roots: &mut [u32; 513],
     tops: &mut [u32; 513],
 ) -> bool
-    requires fact_1 { c.terms ≤ term_limit }
-    requires fact_2 { within c.terms t ≡ true }
-    requires fact_3 { let s = termed terms.now c in each_term s (parents_rule s) ≡ true }
-    requires fact_4 { let s = termed terms.now c in Kept s c.terms roots.old tops.old }
+    requires limited { c.terms ≤ term_limit }
+    requires here { within c.terms t ≡ true }
+    requires parents { let s = termed terms.now c in each_term s (parents_rule s) ≡ true }
+    requires kept { let s = termed terms.now c in Kept s c.terms roots.old tops.old }
     ensures { Tested (termed terms.now c) c.terms t result roots.new tops.new }
 {
     let r = kept_root_unchecked(terms, c.terms, t, roots);
@@ -98,12 +96,10 @@ pub(crate) fn classes_many(terms: &[u32], c: State) -> bool
 {
     let mut roots: [u32; 513] = [0; 513];
     let mut tops: [u32; 513] = [0; 513];
-    let mut i: u32 = 0;
-    while (i as usize) < c.terms {
-        if !class_kept_ok(terms, c, i + 1, &mut roots, &mut tops) {
+    for t in 1..=c.terms as u32 {
+        if !class_kept_ok(terms, c, t, &mut roots, &mut tops) {
             return false;
         }
-        i += 1;
     }
     true
 }

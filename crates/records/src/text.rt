@@ -15,28 +15,16 @@ pub fn text_is(chars: &[u32], p: u32, w: &[u32]) -> bool
     text_from(chars, p as usize, w)
 }
 
-// Two characters a turn: a loop of one takes one cycle or two by where it is linked.
+// The same from a place that is counted wide.
 fn text_from(chars: &[u32], at: usize, w: &[u32]) -> bool
     requires { at + length w.now ≤ 0x7FFF_FFFF_FFFF_FFFF }
     ensures { result ≡ same_word (span chars.now at (length w.now)) w.now }
 {
     if chars.len() < at + w.len() {
-        return text_past(chars, at, w);
+        text_past(chars, at, w)
+    } else {
+        &chars[at..at + w.len()] == w
     }
-    let mut i: usize = 0;
-    while i + 1 < w.len() {
-        if chars[at + i] != w[i] {
-            return false;
-        }
-        if chars[at + i + 1] != w[i + 1] {
-            return false;
-        }
-        i += 2;
-    }
-    if w.len() <= i {
-        return true;
-    }
-    chars[at + i] == w[i]
 }
 
 // The same where w reaches past the end of the slice.
@@ -44,12 +32,10 @@ fn text_past(chars: &[u32], at: usize, w: &[u32]) -> bool
     requires { at + length w.now ≤ 0x7FFF_FFFF_FFFF_FFFF }
     ensures { result ≡ same_word (span chars.now at (length w.now)) w.now }
 {
-    let mut i: usize = 0;
-    while i < w.len() {
-        if word(chars, at + i) != w[i] {
+    for (i, &x) in w.iter().enumerate() {
+        if word(chars, at + i) != x {
             return false;
         }
-        i += 1;
     }
     true
 }
@@ -59,11 +45,7 @@ pub(crate) fn put_text_unchecked(chars: &mut [u32], at: usize, w: &[u32])
     requires { at + length w.now ≤ length chars.old }
     ensures { CharsPut chars.old chars.new at w.now }
 {
-    let mut i: usize = 0;
-    while i < w.len() {
-        chars[at + i] = w[i];
-        i += 1;
-    }
+    chars[at..at + w.len()].copy_from_slice(w);
 }
 
 // The characters of a list of terms, counted.
@@ -72,19 +54,16 @@ pub(crate) fn joined_length_unchecked(terms: &[u32], list: &[u32]) -> usize
     ensures { result ≡ lengths terms.now list.now }
 {
     let mut total: usize = 0;
-    let mut i: usize = 0;
-    while i < list.len() {
-        let n = second(terms, list[i]) as usize;
-        total += n;
-        i += 1;
+    for &t in list {
+        total += second(terms, t) as usize;
     }
     total
 }
 
 // Whether n characters from place `at` on are those from place `from` on.
 fn spans_agree(chars: &[u32], at: usize, from: usize, n: usize) -> bool
-    requires fact_1 { at + n ≤ 0x7FFF_FFFF_FFFF_FFFF }
-    requires fact_2 { from + n ≤ length chars.now }
+    requires counted { at + n ≤ 0x7FFF_FFFF_FFFF_FFFF }
+    requires within { from + n ≤ length chars.now }
     ensures { result ≡ same_word (span chars.now at n) (span chars.now from n) }
 {
     text_from(chars, at, &chars[from..from + n])
@@ -92,36 +71,30 @@ fn spans_agree(chars: &[u32], at: usize, from: usize, n: usize) -> bool
 
 // Whether the characters from place p on are the joined texts of a list of terms.
 pub(crate) fn joined_is_unchecked(terms: &[u32], chars: &[u32], p: u32, list: &[u32]) -> bool
-    requires fact_1 { length list.now ≤ list_limit }
-    requires fact_2 { TextsWithin terms.now (length chars.now) list.now }
+    requires short { length list.now ≤ list_limit }
+    requires within { TextsWithin terms.now (length chars.now) list.now }
     ensures { let w = concat_map (text_at terms.now chars.now) list.now in result ≡ same_word (span chars.now p (lengths terms.now list.now)) w }
 {
     let mut at = p as usize;
-    let mut i: usize = 0;
-    while i < list.len() {
-        let t = list[i];
+    for &t in list {
         let from = first(terms, t) as usize;
         let n = second(terms, t) as usize;
         if !spans_agree(chars, at, from, n) {
             return false;
         }
         at += n;
-        i += 1;
     }
     true
 }
 
 // n characters from place `from` on, copied to place `at`, which is above them.
 fn copy_text(chars: &mut [u32], from: usize, n: usize, at: usize)
-    requires fact_1 { from + n ≤ at }
-    requires fact_2 { at + n ≤ length chars.old }
+    requires below { from + n ≤ at }
+    requires room { at + n ≤ length chars.old }
     ensures { CharsPut chars.old chars.new at (span chars.old from n) }
 {
-    let mut i: usize = 0;
-    while i < n {
-        chars[at + i] = chars[from + i];
-        i += 1;
-    }
+    let (below, above) = chars.split_at_mut(at);
+    above[..n].copy_from_slice(&below[from..from + n]);
 }
 
 // Part i of a list added to the word held: `held` characters from place `to` on, above all texts. The standard joins from the left,
@@ -155,9 +128,7 @@ pub(crate) fn put_joined_unchecked(terms: &[u32], chars: &mut [u32], list: &[u32
     ensures { CharsPut chars.old chars.new to (concat_map (text_at terms.now chars.old) list.now) }
 {
     let mut held: usize = 0;
-    let mut i: usize = 0;
-    while i < list.len() {
+    for i in 0..list.len() {
         held = add_part_unchecked(terms, chars, list, i, to, held);
-        i += 1;
     }
 }

@@ -3,23 +3,20 @@
 // number; 0 ends a chain. So a name is looked for in one chain only.
 ghost use Rattle.std.specs.Prelude.{◌≡◌, true, ◌&&◌, ◌+◌, ◌<◌, ◌≤◌, length, get_or};
 ghost use Rattle.records.specs.Store.{is_variable, text};
-ghost use Rattle.records.specs.View.{span, read_in};
+ghost use Rattle.records.specs.View.{read_in};
 ghost use Rattle.records.specs.Rules.{text_rule, named, name_rule};
 ghost use Rattle.records.specs.Working.Hashes.{hash_from, hash, Hashed, Tables, Passing};
 
 use crate::make::has_text;
 use crate::rules::text_ok;
-use crate::{State, fields};
+use crate::{Kind, State, fields};
 
-fn text_hash(chars: &[u32], p: usize, n: usize) -> u32
-    requires { p + n ≤ length chars.now }
-    ensures { result ≡ hash_from 1 (span chars.now p n) }
+fn text_hash(w: &[u32]) -> u32
+    ensures { result ≡ hash_from 1 w.now }
 {
     let mut h: usize = 1;
-    let mut i: usize = 0;
-    while i < n {
-        h = (69069 * h + h / 65536 + fields::wide(chars[p + i])) % 4294967291;
-        i += 1;
+    for &x in w {
+        h = (69069 * h + h / 65536 + fields::wide(x)) % 4294967291;
     }
     h as u32
 }
@@ -30,7 +27,7 @@ fn name_hash(terms: &[u32], chars: &[u32], c: State, t: u32) -> u32
 {
     let p = fields::wide(fields::first(terms, t));
     let n = fields::wide(fields::second(terms, t));
-    text_hash(chars, p, n)
+    text_hash(&chars[p..p + n])
 }
 
 // Whether variable u has t's name; m is the hash of t.
@@ -43,7 +40,7 @@ fn is_named(terms: &[u32], chars: &[u32], c: State, hashes: &[u32], m: u32, t: u
     }
     let p = fields::wide(fields::first(terms, t));
     let n = fields::wide(fields::second(terms, t));
-    has_text(terms, chars, u, 2, &chars[p..p + n])
+    has_text(terms, chars, u, Kind::Variable, &chars[p..p + n])
 }
 
 // t's name has a character, and no lower variable has it; m is the hash of t.
@@ -60,8 +57,7 @@ fn name_ok(
     requires { let s = read_in terms.now chars.now c in (c.chars ≤ length chars.now) × Hashed s m t × Tables s hashes.now links.now heads.now t }
     ensures { result ≡ name_rule (read_in terms.now chars.now c) t }
 {
-    let n = fields::second(terms, t);
-    if n == 0 {
+    if fields::second(terms, t) == 0 {
         return false;
     }
     let mut u = heads[(m % 64) as usize];

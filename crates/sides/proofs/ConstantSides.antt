@@ -10,6 +10,7 @@ use Rattle.records.specs.Rules.{list_limit}
 use Rattle.records.specs.Working.Audited.{Ready}
 use Rattle.records.proofs.ListLaws.{list-short}
 use Rattle.records.proofs.Doing.{working_same}
+use Rattle.std.specs.Prelude.{Ok}
 use Rattle.sides.specs.declared.StepResult.TheVariants as step
 use Rattle.sides.specs.Wordeq.{fixed, letters_of, letters, unequal, short, absent, constants}
 use Rattle.sides.specs.Working.Sides.{Spelled}
@@ -28,10 +29,10 @@ module _ (m : Lent) (c : State) (l r : List ℕ) where
 
   -- and what it answers
   module _ (ready : Ready m c) (b : Bool) (e : b ≡ conflicts (read_in m.terms m.chars c) l r) where
-    pub constants-conflict : b ≡ true → Tries (constants l r) m m c (step.Conflict c)
+    pub constants-conflict : b ≡ true → Tries (constants l r) m m c (Ok (step.Conflict c))
     unfolding constants conflicts
     constants-conflict q = record { is = λ k. working_same ready (let f = sym (e ∙ conflicts-whole) ∙ q in rw f) }
 
-    pub constants-pass : b ≡ false → Tries (constants l r) m m c (step.Done c)
+    pub constants-pass : b ≡ false → Tries (constants l r) m m c (Ok (step.Done c))
     unfolding constants conflicts
     constants-pass q = record { is = λ k. working_same ready (let f = sym (e ∙ conflicts-whole) ∙ q in rw f) }

@@ -1,45 +1,46 @@
 -- The place of the first atom of a list that a test holds of, and what it says of all of them.
-use Rattle.std.specs.Prelude.{if◌then◌else◌}
+use Rattle.std.specs.Prelude.{if◌then◌else◌, cond, position, unwrap_or, Option, Some, None}
+use Rattle.std.specs.List.{position_or_len}
 use mathlib.Core.Path.{◌≡◌, refl, sym, ap, ◌∙◌}
 use mathlib.Core.Bool.{Bool, true, false, not, ◌&&◌, ◌||◌}
 use mathlib.Core.List.{List, [], ◌∷◌}
-use Prim.Native.Nat.{ℕ, ◌+◌, ◌≤◌, ◌<◌}
-use native.Mathlib.Numerals.{add-one}
+use Prim.Native.Nat.{ℕ, suc, ◌+◌, ◌<◌}
 use native.Mathlib.Omega.{arith}
 use lib.ListN.{length, get_or, take, drop, take-append-drop, drop_of_length-le}
-use lib.Seq.{take-suc}
 use lib.Dec.{eqb, ltb}
 use borrow.Author.Tests.{not-true, eq-eqb, ne_eqb, ltb-true, ltb-false}
 use Rattle.records.specs.Lists.{all, any}
 use Rattle.records.specs.Store.{Store, kind}
-use Rattle.records.proofs.Lists.{decide, or_left, or_none_lem, any_append, drop_head}
+use Rattle.records.proofs.Lists.{decide, or_left, any_append, drop_head}
 use Rattle.sides.specs.Wordeq.{fixed}
 use Rattle.sides.specs.Working.Sides.{of_kind, First}
 use Rattle.sides.specs.Working.Spans.{FirstVariable}
 
--- THE LOOP
+-- THE PLACE
 
-module _ (p : ℕ → Bool) (l : List ℕ) where
-  pub first-start : any p (take 0 l) ≡ false
-  unfolding any
-  first-start = refl
+-- the first place that passes, or the list's length
+first-place : (p : ℕ → Bool) (l : List ℕ) → First p l (position_or_len p l)
+unfolding any
+first-place p [] = record { within = omega arith; before = refl; at = λ z. absurd (omega arith) }
+first-place p (a ∷ l) = go (p a) refl (first-place p l)
+  where
+    go : (b : Bool) → p a ≡ b → First p l (position_or_len p l) → First p (a ∷ l) (cond (not b) (1 + position_or_len p l) 0)
+    go true e ih = record { within = omega arith; before = refl; at = λ z. e }
+    go false e ih =
+        let w = ih.within in
+        let z : 1 + position_or_len p l ≡ suc (position_or_len p l) = omega arith in
+        rw z (record { within = omega arith; before = ap (λ (x : Bool). x || any p (take (position_or_len p l) l)) e ∙ ih.before; at = λ y. ih.at (omega arith) })
 
-  module _ {i : ℕ} (h : any p (take i l) ≡ false) where
-    module _ (b : i < length l) (x : Bool) (e : x ≡ p (get_or l i 0)) where
-      pub first-here : x ≡ true → First p l i
-      first-here t = record { within = omega arith; before = h; at = λ z. sym e ∙ t }
-
-      one : x ≡ false → any p (get_or l i 0 ∷ []) ≡ false
-      unfolding any
-      one t = rw (sym e ∙ t)
-
-      pub first-turn : x ≡ false → any p (take (i + 1) l) ≡ false
-      first-turn t =
-          rw add-one
-          (ap (any p) (take-suc l i 0 b) ∙ any_append p (take i l) (get_or l i 0 ∷ []) ∙ ap (λ (y : Bool). any p (take i l) || y) (one t) ∙ or_none_lem (any p (take i l)) ∙ h)
-
-    pub first-none : i ≤ length l → length l ≤ i → First p l i
-    first-none b z = record { within = b; before = h; at = λ y. absurd (omega arith) }
+pub first-found : (p : ℕ → Bool) (l : List ℕ) (o : Option ℕ) (i : ℕ) → o ≡ position p l → i ≡ unwrap_or o (length l) → First p l i
+first-found p l o i e f = rw (f, e) (go (ltb (position_or_len p l) (length l)) refl)
+  where
+    go : (b : Bool) → ltb (position_or_len p l) (length l) ≡ b → First p l (unwrap_or (cond b (Some (position_or_len p l)) None) (length l))
+    go true t = first-place p l
+    go false t =
+        let x = first-place p l in
+        let w = x.within in
+        let k : position_or_len p l ≡ length l = (let z = ltb-false (position_or_len p l) (length l) t in omega arith) in
+        rw (← k) x
 
 -- WHAT IT SAYS
 
@@ -88,23 +89,6 @@ any_same p q e (a ∷ l) = rw (e a, any_same p q e l)
 -- KINDS
 
 module _ (s : Store) (k : ℕ) where
-  module _ (a x : ℕ) (is : Bool) (e : x ≡ kind s a) where
-    pub kind_yes : x ≡ k → is ≡ of_kind s k is a
-    unfolding of_kind
-    kind_yes n = rw (eq-eqb (kind s a) k (sym e ∙ n))
-
-    pub kind_no : (x ≡ k → ⊥) → not is ≡ of_kind s k is a
-    unfolding of_kind
-    kind_no n = rw (ne_eqb (kind s a) k (λ z. n (e ∙ z)))
-
-  that_kind : (a : ℕ) → of_kind s k true a ≡ eqb (kind s a) k
-  unfolding of_kind
-  that_kind a = go (eqb (kind s a) k)
-    where
-      go : (x : Bool) → (if x then true else false) ≡ x
-      go true = refl
-      go false = refl
-
   other-kind : (a : ℕ) → of_kind s k false a ≡ not (eqb (kind s a) k)
   unfolding of_kind
   other-kind a = go (eqb (kind s a) k)
@@ -115,9 +99,6 @@ module _ (s : Store) (k : ℕ) where
 
   pub all-kind : (l : List ℕ) (i : ℕ) → First (of_kind s k false) l i → eqb i (length l) ≡ all (λ a. eqb (kind s a) k) l
   all-kind = first-all (of_kind s k false) (λ a. eqb (kind s a) k) other-kind
-
-  pub any-kind : (l : List ℕ) (i : ℕ) → First (of_kind s k true) l i → ltb i (length l) ≡ any (λ a. eqb (kind s a) k) l
-  any-kind l i f = first_any (of_kind s k true) l i f ∙ any_same (of_kind s k true) (λ a. eqb (kind s a) k) that_kind l
 
 pub fixed-kind : (s : Store) (l : List ℕ) (i : ℕ) → First (of_kind s 1 false) l i → eqb i (length l) ≡ fixed s l
 unfolding fixed

@@ -22,3 +22,4 @@ pub mod SideReady
 pub mod ConstantSides
 pub mod Residual
 mod Refines
+mod Kept

@@ -14,6 +14,5 @@ pub mod Elsewhere
 pub mod LoneAtom
 pub mod LackingPlaces
 pub mod LackingSides
-pub mod LackingTries
 pub mod Fitting
 pub mod TileCalls

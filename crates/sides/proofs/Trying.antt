@@ -18,6 +18,8 @@ use Rattle.records.specs.Working.Doing.{Working}
 use Rattle.records.proofs.Works.{via, branch}
 use Rattle.records.proofs.Doing.{working_at}
 use Rattle.engine.specs.Explain.{explain}
+use Rattle.std.specs.Prelude.{Result, Ok, Err}
+use Rattle.records.specs.declared.refusal.Refusal.{Refusal}
 use Rattle.sides.specs.declared.StepResult.{StepResult}
 use Rattle.sides.specs.declared.StepResult.TheVariants as step
 use Rattle.sides.specs.Wordeq.{Answer, conflict, propagate, Tried, answer, pass, settled, ◌or_else◌, same, fixed, letters, occurrence, occurs_at, occurs, unequal, short, absent, constants, is_plain, alias, empties_at, empties, assigns, fits, explain_all, variables, tile_by, tile, clashes, splits, after}
@@ -64,9 +66,9 @@ pub record Lined (l r : List ℕ) (m : Lent) (c : State) : Type 0 where
 pub lined : {l r : List ℕ} {m : Lent} {c : State} → Ready m c → BothLists (store_of m c) l r → Lined l r m c
 lined x y = record { ready = x; lists = y }
 
-module _ {a : Tried} (g : Rises a) {m m₁ : Lent} {c d : State} {o : StepResult} (w : Tries a m m₁ c o) (e : o ≡ step.Done d) where
+module _ {a : Tried} (g : Rises a) {m m₁ : Lent} {c d : State} {o : StepResult} (w : Tries a m m₁ c (Ok o)) (e : o ≡ step.Done d) where
   passed : Working a m m₁ c (ok (store_of m₁ d) none)
-  passed = working_at (ap (λ (x : StepResult). tried x m₁ []) e) (w.is [])
+  passed = working_at (ap (λ (x : StepResult). tried (Ok x) m₁ []) e) (w.is [])
 
   risen : Higher (store_of m c) (store_of m₁ d)
   risen = g.higher (store_of m c) (store_of m₁ d) passed.says
@@ -89,7 +91,7 @@ module _ {a : Tried} (g : Rises a) {m m₁ : Lent} {c d : State} {o : StepResult
     ready = v.ready;
   }
 
-  pub else_tries : {b : Tried} {m₂ : Lent} {o₂ : StepResult} → Tries b m₁ m₂ d o₂ → Tries (a or_else b) m m₂ c o₂
+  pub else_tries : {b : Tried} {m₂ : Lent} {o₂ : Result StepResult Refusal} → Tries b m₁ m₂ d o₂ → Tries (a or_else b) m m₂ c o₂
   else_tries v = record { is = λ k. else_works (v.is k) }
 
 -- a step that answers is the last
@@ -99,7 +101,6 @@ Last (step.Saturated d) = Unit {0}
 Last (step.Conflict d) = Unit {0}
 Last (step.Propagate d v w f) = Unit {0}
 Last (step.Split d n g j) = Unit {0}
-Last (step.Refused n) = Unit {0}
 
 -- an answer that is not Done, as a `let .. else` tells it
 pub last_of : (o : StepResult) → ((d : State) → o ≡ step.Done d → ⊥) → Last o
@@ -108,18 +109,20 @@ last_of (step.Saturated d) h = tt
 last_of (step.Conflict d) h = tt
 last_of (step.Propagate d v w f) h = tt
 last_of (step.Split d n g j) h = tt
-last_of (step.Refused n) h = tt
 
-settles : (b : Tried) (m : Lent) (o : StepResult) (k : List ℕ) → Last o → and_then (settled b) (tried o m k) ≡ tried o m k
+settles : (b : Tried) (m : Lent) (o : StepResult) (k : List ℕ) → Last o → and_then (settled b) (tried (Ok o) m k) ≡ tried (Ok o) m k
 settles b m (step.Done d) k z = absurd z
 settles b m (step.Saturated d) k z = refl
 settles b m (step.Conflict d) k z = refl
 settles b m (step.Propagate d v w f) k z = refl
 settles b m (step.Split d n g j) k z = refl
-settles b m (step.Refused n) k z = refl
 
-pub else_last : {a : Tried} (b : Tried) {m m₁ : Lent} {c : State} {o : StepResult} → Last o → Tries a m m₁ c o → Tries (a or_else b) m m₁ c o
+pub else_last : {a : Tried} (b : Tried) {m m₁ : Lent} {c : State} {o : StepResult} → Last o → Tries a m m₁ c (Ok o) → Tries (a or_else b) m m₁ c (Ok o)
 else_last b {m₁ = m₁} {o = o} z w = record { is = λ k. record { says = ap (and_then (settled b)) (w.is k).says ∙ settles b m₁ o k z; kept = (w.is k).kept; ready = (w.is k).ready } }
+
+-- and so is one that is refused
+pub else_refused : {a : Tried} (b : Tried) {m m₁ : Lent} {c : State} {e : Refusal} → Tries a m m₁ c (Err e) → Tries (a or_else b) m m₁ c (Err e)
+else_refused b w = record { is = λ k. record { says = ap (and_then (settled b)) (w.is k).says; kept = (w.is k).kept; ready = (w.is k).ready } }
 
 -- THE STEPS
 

@@ -10,7 +10,7 @@ ghost use Rattle.sides.specs.Wordeq.{nf_equal, nf_explain};
 ghost use Rattle.sides.specs.Working.Stripping.{Readable};
 
 use crate::stripping;
-use records::{Added, State};
+use records::{Refusal, State};
 
 // Whether two lists of string terms are atom by atom the same.
 pub fn nf_equal_unchecked(terms: &[u32], chars: &[u32], c: State, lhs: &[u32], rhs: &[u32]) -> bool
@@ -19,10 +19,7 @@ pub fn nf_equal_unchecked(terms: &[u32], chars: &[u32], c: State, lhs: &[u32], r
     requires rhs_value { all (is_string (read_in terms.now chars.now c)) rhs.now ≡ true }
     ensures { result ≡ nf_equal (read_in terms.now chars.now c) lhs.now rhs.now }
 {
-    if lhs.len() != rhs.len() {
-        return false;
-    }
-    stripping::count_same(terms, chars, c, lhs, rhs, false) == lhs.len()
+    lhs.len() == rhs.len() && stripping::count_same(terms, chars, c, lhs, rhs, false) == lhs.len()
 }
 
 // The reasons why two lists of equal length are equal, pair by pair.
@@ -35,7 +32,7 @@ pub fn nf_equal_explain_unchecked(
     c: State,
     lhs: &[u32],
     rhs: &[u32],
-) -> Added
+) -> Result<State, Refusal>
     requires ready { Ready (lent terms.now cells.now chars.now reasons.old keys.now) c }
     requires lhs_value { all (is_string (read_in terms.now chars.now c)) lhs.now ≡ true }
     requires rhs_value { all (is_string (read_in terms.now chars.now c)) rhs.now ≡ true }

@@ -8,7 +8,7 @@ ghost use Rattle.sides.specs.Wordeq.{explain_all, variables};
 ghost use Rattle.sides.specs.Working.Stripping.{Pair};
 ghost use Rattle.sides.specs.Working.Explaining.{OneClass, explain_atom};
 
-use records::{Added, State, rules};
+use records::{Kind, Refusal, State, rules};
 
 fn explain_atom(
     terms: &[u32],
@@ -20,14 +20,14 @@ fn explain_atom(
     u: u32,
     v: u32,
     places: &mut [u32],
-) -> Added
+) -> Result<State, Refusal>
     requires ready { Ready (lent terms.now cells.now chars.now reasons.old keys.now) c }
     requires pair { Pair (read_in terms.now chars.now c) u v }
     requires one_class { OneClass (terms_view terms.now c.terms) u v }
     ensures { Does (explain_atom u v) (across terms cells chars (changing reasons) keys) c (added result) }
 {
-    if rules::kind_of(terms, c.terms, u) == 1 {
-        return Added::Counts(c);
+    if rules::is_a(terms, c.terms, u, Kind::Constant) {
+        return Ok(c);
     }
     engine::explain_unchecked(terms, cells, chars, reasons, keys, c, u, v, places)
 }
@@ -42,38 +42,19 @@ pub(crate) fn explain_all_unchecked(
     c: State,
     side: &[u32],
     v: u32,
-) -> Added
+) -> Result<State, Refusal>
     requires ready { Ready (lent terms.now cells.now chars.now reasons.old keys.now) c }
-    requires every { Every (λ u. Pair (read_in terms.now chars.now c) u v) side.now }
-    requires every_2 { Every (λ u. OneClass (terms_view terms.now c.terms) u v) side.now }
+    requires pairs { Every (λ u. Pair (read_in terms.now chars.now c) u v) side.now }
+    requires one_class { Every (λ u. OneClass (terms_view terms.now c.terms) u v) side.now }
     ensures { Does (explain_all (variables (read_in terms.now chars.now c) side.now) v) (across terms cells chars (changing reasons) keys) c (added result) }
 {
-    if side.len() == 0 {
-        return Added::Counts(c);
+    if side.is_empty() {
+        return Ok(c);
     }
     let mut d = c;
     let mut places: [u32; 513] = [0; 513];
-    let mut i: usize = 0;
-    while i < side.len() {
-        match explain_atom(
-            terms,
-            cells,
-            chars,
-            reasons,
-            keys,
-            d,
-            side[i],
-            v,
-            &mut places,
-        ) {
-            Added::Counts(e) => {
-                d = e;
-            }
-            Added::Refused(k) => {
-                return Added::Refused(k);
-            }
-        }
-        i += 1;
+    for &u in side {
+        d = explain_atom(terms, cells, chars, reasons, keys, d, u, v, &mut places)?;
     }
-    Added::Counts(d)
+    Ok(d)
 }

@@ -9,16 +9,13 @@ ghost use Rattle.sides.specs.Working.Sides.{Texts, Spelled};
 ghost use Rattle.sides.specs.Working.Lacking.{used_at, seen, used, Uses, Lacking, conflicts};
 
 use crate::letters;
-use records::{State, fields, rules};
+use records::{Kind, State, fields, rules};
 
 fn used_at(chars: &[u32], table: &[u8; 16384], x: u32, i: usize) -> bool
     requires { (i < length chars.now) × (i < char_limit) }
     ensures { result ≡ used_at chars.now table.now x i }
 {
-    if table[i] == 0 {
-        return false;
-    }
-    x == chars[i]
+    table[i] != 0 && x == chars[i]
 }
 
 // Whether one of the first n places is used and has the character x.
@@ -26,12 +23,10 @@ fn is_seen(chars: &[u32], table: &[u8; 16384], n: usize, x: u32) -> bool
     requires { (n ≤ length chars.now) × (n ≤ char_limit) }
     ensures { result ≡ seen chars.now table.now n x }
 {
-    let mut i: usize = 0;
-    while i < n {
+    for i in 0..n {
         if used_at(chars, table, x, i) {
             return true;
         }
-        i += 1;
     }
     false
 }
@@ -41,10 +36,7 @@ fn is_known(chars: &[u32], table: &[u8; 16384], n: usize, i: usize) -> bool
     requires { (n ≤ length chars.now) × (n ≤ char_limit) × (i < n) }
     ensures { result ≡ seen chars.now table.now n (get_or chars.now i 0) }
 {
-    if table[i] != 0 {
-        return true;
-    }
-    is_seen(chars, table, n, chars[i])
+    table[i] != 0 || is_seen(chars, table, n, chars[i])
 }
 
 // THE PLACES THAT A SIDE USES
@@ -53,33 +45,26 @@ fn use_text(table: &mut [u8; 16384], p: usize, n: usize)
     requires { p + n ≤ char_limit }
     ensures { table.new ≡ used table.old p n }
 {
-    let mut j: usize = 0;
-    while j < n {
-        table[p + j] = 1;
-        j += 1;
-    }
+    table[p..p + n].fill(1);
 }
 
 fn use_atom(terms: &[u32], c: State, a: u32, table: &mut [u8; 16384])
     requires { Texts terms.now c × (length table.old ≡ char_limit) }
     ensures { Uses c.chars (λ h. letters_of (read_in terms.now h c) a) table.old table.new }
 {
-    if rules::kind_of(terms, c.terms, a) != 1 {
-        return;
+    if rules::is_a(terms, c.terms, a, Kind::Constant) {
+        let p = fields::wide(fields::first(terms, a));
+        let n = fields::wide(fields::second(terms, a));
+        use_text(table, p, n);
     }
-    let p = fields::wide(fields::first(terms, a));
-    let n = fields::wide(fields::second(terms, a));
-    use_text(table, p, n);
 }
 
 fn use_side(terms: &[u32], c: State, l: &[u32], table: &mut [u8; 16384])
     requires { Texts terms.now c × (length table.old ≡ char_limit) }
     ensures { Uses c.chars (λ h. letters (read_in terms.now h c) l.now) table.old table.new }
 {
-    let mut i: usize = 0;
-    while i < l.len() {
-        use_atom(terms, c, l[i], table);
-        i += 1;
+    for &a in l {
+        use_atom(terms, c, a, table);
     }
 }
 
@@ -90,13 +75,11 @@ fn lacks_text(chars: &[u32], table: &mut [u8; 16384], n: usize, p: usize, k: usi
     requires { (n ≤ length chars.now) × (n ≤ char_limit) × (p + k ≤ n) × (length table.old ≡ char_limit) }
     ensures { Lacking chars.now n (span chars.now p k) table.old table.new result }
 {
-    let mut j: usize = 0;
-    while j < k {
+    for j in 0..k {
         if !is_known(chars, table, n, p + j) {
             return true;
         }
         table[p + j] = 1;
-        j += 1;
     }
     false
 }
@@ -105,7 +88,7 @@ fn lacks_atom(terms: &[u32], chars: &[u32], c: State, a: u32, table: &mut [u8; 1
     requires { Spelled terms.now chars.now c × (length table.old ≡ char_limit) }
     ensures { let s = read_in terms.now chars.now c in Lacking chars.now c.chars (letters_of s a) table.old table.new result }
 {
-    if rules::kind_of(terms, c.terms, a) != 1 {
+    if !rules::is_a(terms, c.terms, a, Kind::Constant) {
         return false;
     }
     let p = fields::wide(fields::first(terms, a));
@@ -117,12 +100,10 @@ fn lacks_side(terms: &[u32], chars: &[u32], c: State, l: &[u32], table: &mut [u8
     requires { Spelled terms.now chars.now c × (length table.old ≡ char_limit) }
     ensures { let s = read_in terms.now chars.now c in Lacking chars.now c.chars (letters s l.now) table.old table.new result }
 {
-    let mut i: usize = 0;
-    while i < l.len() {
-        if lacks_atom(terms, chars, c, l[i], table) {
+    for &a in l {
+        if lacks_atom(terms, chars, c, a, table) {
             return true;
         }
-        i += 1;
     }
     false
 }
@@ -155,17 +136,9 @@ pub fn constants_unchecked<'a>(
     requires { Spelled terms.now chars.now c × (length l.now ≤ list_limit) × (length r.now ≤ list_limit) }
     ensures { result ≡ conflicts (read_in terms.now chars.now c) l.now r.now }
 {
-    if letters::unequal(terms, chars, c, l, r) {
-        return true;
-    }
-    if letters::short(terms, c, l, r) {
-        return true;
-    }
-    if letters::short(terms, c, r, l) {
-        return true;
-    }
-    if absent(terms, chars, c, l, r) {
-        return true;
-    }
-    absent(terms, chars, c, r, l)
+    letters::unequal(terms, chars, c, l, r)
+        || letters::short(terms, c, l, r)
+        || letters::short(terms, c, r, l)
+        || absent(terms, chars, c, l, r)
+        || absent(terms, chars, c, r, l)
 }

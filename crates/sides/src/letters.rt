@@ -1,45 +1,38 @@
 // The constants of a side and their characters: counted, walked and compared. Nothing is written.
 ghost use Rattle.std.specs.Prelude.{◌≡◌, true, ◌&&◌, ◌∷◌, ◌+◌, ◌<◌, ◌≤◌, length, take};
 ghost use Rattle.records.specs.Lists.{same_word};
+ghost use Rattle.records.specs.Kind.{kind_number};
 ghost use Rattle.records.specs.Store.{is_constant, text};
 ghost use Rattle.records.specs.View.{char_limit, span, read_in, termed};
 ghost use Rattle.records.specs.Rules.{list_limit};
 ghost use Rattle.sides.specs.Wordeq.{fixed, letters_of, letters, is_full, unequal, short, is_plain, filled, differ};
-ghost use Rattle.sides.specs.Working.Sides.{Texts, Spelled, of_kind, First, which_fixed, picked, rest, next, There, Settled, heads_agree, fill_count, fill_start, fill_source, Ended, Tiling};
+ghost use Rattle.sides.specs.Working.Sides.{Texts, Spelled, of_kind, First, which_fixed, picked, rest, next, There, Settled, heads_agree, fill_count, fill_start, fill_source, Tiling};
 
 use crate::stripping;
 use records::text::text_is;
-use records::{State, fields, rules};
+use records::{Kind, State, fields, rules};
 
-// Whether an atom's kind is k; where `is` is false, whether it is another.
-fn is_kind(terms: &[u32], c: State, a: u32, k: u32, is: bool) -> bool
-    ensures { result ≡ of_kind (termed terms.now c) k is a }
+// Whether an atom is of kind k; where `is` is false, whether it is of another.
+fn is_kind(terms: &[u32], c: State, a: u32, k: Kind, is: bool) -> bool
+    ensures { result ≡ of_kind (termed terms.now c) (kind_number k) is a }
 {
-    if rules::kind_of(terms, c.terms, a) == k {
-        return is;
-    }
-    !is
+    rules::is_a(terms, c.terms, a, k) == is
 }
 
 // The place of the first atom whose kind is k, or is another; the list's end where there is none.
-pub fn first_of_kind_unchecked(terms: &[u32], c: State, l: &[u32], k: u32, is: bool) -> usize
-    ensures { First (of_kind (termed terms.now c) k is) l.now result }
+pub fn first_of_kind_unchecked(terms: &[u32], c: State, l: &[u32], k: Kind, is: bool) -> usize
+    ensures { First (of_kind (termed terms.now c) (kind_number k) is) l.now result }
 {
-    let mut i: usize = 0;
-    while i < l.len() {
-        if is_kind(terms, c, l[i], k, is) {
-            return i;
-        }
-        i += 1;
-    }
-    i
+    l.iter()
+        .position(|&a| is_kind(terms, c, a, k, is))
+        .unwrap_or(l.len())
 }
 
 // Whether all atoms are constants.
 pub fn is_fixed(terms: &[u32], c: State, l: &[u32]) -> bool
     ensures { result ≡ fixed (termed terms.now c) l.now }
 {
-    first_of_kind_unchecked(terms, c, l, 1, false) == l.len()
+    first_of_kind_unchecked(terms, c, l, Kind::Constant, false) == l.len()
 }
 
 // Which of two lists is all constants: 1 for the left one, where both are too, 2 for the right one, 0 for none.
@@ -47,25 +40,23 @@ pub(crate) fn which_fixed(terms: &[u32], c: State, l: &[u32], r: &[u32]) -> u32
     ensures { result ≡ which_fixed (termed terms.now c) l.now r.now }
 {
     if is_fixed(terms, c, l) {
-        return 1;
+        1
+    } else if is_fixed(terms, c, r) {
+        2
+    } else {
+        0
     }
-    if is_fixed(terms, c, r) {
-        return 2;
-    }
-    0
 }
 
 // One of two lists as it was lent: the first for 1, the second for 2, an empty part for any other number.
 pub(crate) fn pick<'a>(which: u32, l: &'a [u32], r: &'a [u32]) -> &'a [u32]
     ensures { result.now ≡ picked which l.now r.now }
 {
-    if which == 1 {
-        return &l[0..l.len()];
+    match which {
+        1 => l,
+        2 => r,
+        _ => &l[..0],
     }
-    if which == 2 {
-        return &r[0..r.len()];
-    }
-    &l[0..0]
 }
 
 // The characters that fill the place of an atom, counted: a constant's own, or m for a variable.
@@ -73,10 +64,11 @@ fn fill_count(terms: &[u32], c: State, a: u32, m: usize) -> usize
     requires { Texts terms.now c }
     ensures { result ≡ fill_count (termed terms.now c) a m }
 {
-    if rules::kind_of(terms, c.terms, a) != 1 {
-        return m;
+    if rules::is_a(terms, c.terms, a, Kind::Constant) {
+        fields::wide(fields::second(terms, a))
+    } else {
+        m
     }
-    fields::wide(fields::second(terms, a))
 }
 
 // The characters of an atom that is a constant, counted.
@@ -101,10 +93,8 @@ pub fn letters_length_unchecked(terms: &[u32], c: State, l: &[u32]) -> usize
     ensures { result ≡ length (letters (termed terms.now c) l.now) }
 {
     let mut total: usize = 0;
-    let mut i: usize = 0;
-    while i < l.len() {
-        total += letter_count(terms, c, l[i]);
-        i += 1;
+    for &a in l {
+        total += letter_count(terms, c, a);
     }
     total
 }
@@ -114,10 +104,8 @@ pub(crate) fn short(terms: &[u32], c: State, l: &[u32], r: &[u32]) -> bool
     requires { Texts terms.now c × (length l.now ≤ list_limit) × (length r.now ≤ list_limit) }
     ensures { result ≡ short (termed terms.now c) l.now r.now }
 {
-    if !is_fixed(terms, c, l) {
-        return false;
-    }
-    letters_length_unchecked(terms, c, l) < letters_length_unchecked(terms, c, r)
+    is_fixed(terms, c, l)
+        && letters_length_unchecked(terms, c, l) < letters_length_unchecked(terms, c, r)
 }
 
 // A PLACE IN THE CONSTANT CHARACTERS OF A SIDE
@@ -134,17 +122,18 @@ fn settle(terms: &[u32], c: State, l: &[u32], k: Cursor) -> Cursor
     requires { Texts terms.now c }
     ensures { Settled terms.now c l.now k result }
 {
-    let mut i = k.atom;
     let mut j = k.place;
-    while i < l.len() {
+    for i in k.atom..l.len() {
         let n = letter_count(terms, c, l[i]);
         if j < n {
             return Cursor { atom: i, place: j };
         }
         j -= n;
-        i += 1;
     }
-    Cursor { atom: i, place: j }
+    Cursor {
+        atom: l.len(),
+        place: j,
+    }
 }
 
 fn letter(terms: &[u32], chars: &[u32], c: State, l: &[u32], k: Cursor) -> u32
@@ -169,33 +158,22 @@ fn same_letter(
     requires { Spelled terms.now chars.now c × There terms.now c l.now k × There terms.now c r.now x }
     ensures { let s = read_in terms.now chars.now c in result ≡ heads_agree (rest s l.now k.atom k.place) (rest s r.now x.atom x.place) }
 {
-    if l.len() <= k.atom {
-        return false;
-    }
-    if r.len() <= x.atom {
-        return false;
-    }
-    let a = letter(terms, chars, c, l, k);
-    let b = letter(terms, chars, c, r, x);
-    a == b
+    k.atom < l.len()
+        && x.atom < r.len()
+        && letter(terms, chars, c, l, k) == letter(terms, chars, c, r, x)
 }
 
 // TWO TEXTS
 
 fn spans_differ(chars: &[u32], p: usize, n: usize, q: usize, m: usize) -> bool
-    requires fact_1 { p + n ≤ length chars.now }
-    requires fact_2 { q + m ≤ length chars.now }
+    requires one_inside { p + n ≤ length chars.now }
+    requires other_inside { q + m ≤ length chars.now }
     ensures { result ≡ differ (span chars.now p n) (span chars.now q m) }
 {
-    let mut j: usize = 0;
-    while j < n {
-        if m <= j {
-            return false;
-        }
+    for j in 0..n.min(m) {
         if chars[p + j] != chars[q + j] {
             return true;
         }
-        j += 1;
     }
     false
 }
@@ -220,14 +198,9 @@ pub fn is_plain_unchecked(terms: &[u32], chars: &[u32], c: State, v: u32) -> boo
     requires { Spelled terms.now chars.now c }
     ensures { result ≡ is_plain (read_in terms.now chars.now c) v }
 {
-    if rules::kind_of(terms, c.terms, v) != 2 {
-        return false;
-    }
-    if fields::second(terms, v) < 5 {
-        return true;
-    }
     let strk: [u32; 5] = [33, 115, 116, 114, 107];
-    !text_is(chars, fields::first(terms, v), &strk)
+    rules::is_a(terms, c.terms, v, Kind::Variable)
+        && (fields::second(terms, v) < 5 || !text_is(chars, fields::first(terms, v), &strk))
 }
 
 // THE SIDE OVER THE WORD
@@ -237,8 +210,8 @@ fn onward(k: Cursor) -> Cursor
     ensures { result ≡ next k }
 {
     Cursor {
-        atom: k.atom,
         place: k.place + 1,
+        ..k
     }
 }
 
@@ -246,32 +219,22 @@ fn onward(k: Cursor) -> Cursor
 fn fill_start(terms: &[u32], c: State, a: u32, i: usize, v: Cursor) -> Cursor
     ensures { result ≡ fill_start (termed terms.now c) a i v }
 {
-    if rules::kind_of(terms, c.terms, a) != 1 {
-        return v;
+    if rules::is_a(terms, c.terms, a, Kind::Constant) {
+        Cursor { atom: i, place: 0 }
+    } else {
+        v
     }
-    Cursor { atom: i, place: 0 }
 }
 
 // The list that it is read from: the side itself, or the word.
 fn fill_source<'a>(terms: &[u32], c: State, a: u32, side: &'a [u32], word: &'a [u32]) -> &'a [u32]
     ensures { result.now ≡ fill_source (termed terms.now c) a side.now word.now }
 {
-    if rules::kind_of(terms, c.terms, a) != 1 {
-        return &word[0..word.len()];
+    if rules::is_a(terms, c.terms, a, Kind::Constant) {
+        side
+    } else {
+        word
     }
-    &side[0..side.len()]
-}
-
-// Whether the walk came to the end of the side and of the word.
-fn ended(terms: &[u32], c: State, word: &[u32], side: &[u32], i: usize, k: Cursor) -> bool
-    requires { Texts terms.now c }
-    ensures { Ended terms.now c word.now side.now i k result }
-{
-    if i < side.len() {
-        return false;
-    }
-    let x = settle(terms, c, word, k);
-    word.len() <= x.atom
 }
 
 // Whether the side, with m characters of the word from v on for each variable, is the word. The walk ends at the first wrong character.
@@ -288,26 +251,21 @@ pub(crate) fn is_tiled<'a>(
     ensures { let s = read_in terms.now chars.now c in result ≡ same_word (filled s (take m (rest s word.now v.atom v.place)) side.now) (letters s word.now) }
 {
     let mut k = Cursor { atom: 0, place: 0 };
-    let mut i: usize = 0;
-    'atoms: while i < side.len() {
-        let a = side[i];
+    for (i, &a) in side.iter().enumerate() {
         let n = fill_count(terms, c, a, m);
         let mut x = fill_start(terms, c, a, i, v);
         let source = fill_source(terms, c, a, side, word);
-        let mut j: usize = 0;
-        while j < n {
+        for _ in 0..n {
             k = settle(terms, c, word, k);
             x = settle(terms, c, source, x);
             if !same_letter(terms, chars, c, word, k, source, x) {
-                break 'atoms;
+                return false;
             }
             k = onward(k);
             x = onward(x);
-            j += 1;
         }
-        i += 1;
     }
-    ended(terms, c, word, side, i, k)
+    word.len() <= settle(terms, c, word, k).atom
 }
 
 // Both constant with different words.
@@ -321,11 +279,7 @@ pub(crate) fn unequal<'a>(
     requires { Spelled terms.now chars.now c }
     ensures { result ≡ unequal (read_in terms.now chars.now c) l.now r.now }
 {
-    if !is_fixed(terms, c, l) {
-        return false;
-    }
-    if !is_fixed(terms, c, r) {
-        return false;
-    }
-    !is_tiled(terms, chars, c, l, r, Cursor { atom: 0, place: 0 }, 0)
+    is_fixed(terms, c, l)
+        && is_fixed(terms, c, r)
+        && !is_tiled(terms, chars, c, l, r, Cursor { atom: 0, place: 0 }, 0)
 }

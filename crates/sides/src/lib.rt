@@ -19,7 +19,6 @@ pub enum StepResult {
     Propagate(records::State, u32, u32, bool),
     // how many atoms are listed, the guard negated, how many terms were made
     Split(records::State, usize, i32, u32),
-    Refused(u32),
 }
 
 // The places of what step 1 leaves: where both parts begin, and where the left and the right one end.
@@ -30,9 +29,10 @@ pub struct Rest {
     pub rhs: usize,
 }
 
-// What step 1 leaves: the counts, these places, and whether a match that it stripped needs a reason; or the refusal.
+// What step 1 leaves: the counts, these places, and whether a match that it stripped needs a reason.
 #[derive(Clone, Copy)]
-pub enum Stripped {
-    Parts(records::State, usize, usize, usize, bool),
-    Refused(u32),
+pub struct Stripped {
+    pub counts: records::State,
+    pub rest: Rest,
+    pub needed: bool,
 }

@@ -12,17 +12,14 @@ ghost use Rattle.sides.specs.Working.Occurring.{at_place, own_count};
 
 use crate::{StepResult, letters};
 use records::classes::root_unchecked;
-use records::{Added, State, rules};
+use records::{Kind, Refusal, State, rules};
 
 // 1 for a non-empty constant, 0 for any other atom.
 fn own_count(terms: &[u32], c: State, a: u32) -> usize
     requires { Texts terms.now c }
     ensures { result ≡ own_count (termed terms.now c) a }
 {
-    if letters::is_full_unchecked(terms, c, a) {
-        return 1;
-    }
-    0
+    usize::from(letters::is_full_unchecked(terms, c, a))
 }
 
 // The non-empty constants of a list, counted.
@@ -30,13 +27,9 @@ fn count_full(terms: &[u32], c: State, l: &[u32]) -> usize
     requires { Texts terms.now c × (length l.now ≤ list_limit) }
     ensures { result ≡ length (keep (is_full (termed terms.now c)) l.now) }
 {
-    let mut n: usize = 0;
-    let mut i: usize = 0;
-    while i < l.len() {
-        n += own_count(terms, c, l[i]);
-        i += 1;
-    }
-    n
+    l.iter()
+        .filter(|&&a| letters::is_full_unchecked(terms, c, a))
+        .count()
 }
 
 // Whether an atom is of the class of root x, and of the list's n non-empty constants one is at another place.
@@ -46,10 +39,7 @@ fn occurs_here(terms: &[u32], c: State, a: u32, x: u32, n: usize) -> bool
     requires a_value { within c.terms a ≡ true }
     ensures { result ≡ (eqb (root_in (terms_view terms.now c.terms) a) x && ltb (own_count (termed terms.now c) a) n) }
 {
-    if root_unchecked(terms, c.terms, a) != x {
-        return false;
-    }
-    own_count(terms, c, a) < n
+    root_unchecked(terms, c.terms, a) == x && own_count(terms, c, a) < n
 }
 
 // The place of the first occurrence; the list's length where there is none.
@@ -62,14 +52,12 @@ fn find(terms: &[u32], c: State, l: &[u32], x: u32) -> usize
 {
     let n = count_full(terms, c, l);
     let root = root_unchecked(terms, c.terms, x);
-    let mut i: usize = 0;
-    while i < l.len() {
-        if occurs_here(terms, c, l[i], root, n) {
+    for (i, &a) in l.iter().enumerate() {
+        if occurs_here(terms, c, a, root, n) {
             return i;
         }
-        i += 1;
     }
-    i
+    l.len()
 }
 
 // One side's lone atom in the other side.
@@ -82,24 +70,23 @@ fn occurs_in(
     c: State,
     lone: &[u32],
     side: &[u32],
-) -> StepResult
+) -> Result<StepResult, Refusal>
     requires ready { Ready (lent terms.now cells.now chars.now reasons.old keys.now) c }
     requires both_lists { BothLists (store_of (lent terms.now cells.now chars.now reasons.old keys.now) c) lone.now side.now }
     ensures { Between (Tries (occurs lone.now side.now)) (across terms cells chars (changing reasons) keys) c result }
 {
-    if lone.len() != 1 {
-        return StepResult::Done(c);
-    }
-    let x = lone[0];
-    if rules::kind_of(terms, c.terms, x) == 1 {
-        return StepResult::Done(c);
+    let &[x] = lone else {
+        return Ok(StepResult::Done(c));
+    };
+    if rules::is_a(terms, c.terms, x, Kind::Constant) {
+        return Ok(StepResult::Done(c));
     }
     let i = find(terms, c, side, x);
     if side.len() <= i {
-        return StepResult::Done(c);
+        return Ok(StepResult::Done(c));
     }
     let mut places: [u32; 0] = [];
-    match engine::explain_unchecked(
+    let d = engine::explain_unchecked(
         terms,
         cells,
         chars,
@@ -109,10 +96,8 @@ fn occurs_in(
         side[i],
         x,
         &mut places,
-    ) {
-        Added::Counts(d) => StepResult::Conflict(d),
-        Added::Refused(k) => StepResult::Refused(k),
-    }
+    )?;
+    Ok(StepResult::Conflict(d))
 }
 
 // Step 2, left single first.
@@ -125,14 +110,14 @@ pub fn occurs_unchecked(
     c: State,
     lhs: &[u32],
     rhs: &[u32],
-) -> StepResult
+) -> Result<StepResult, Refusal>
     requires ready { Ready (lent terms.now cells.now chars.now reasons.old keys.now) c }
     requires both_lists { BothLists (store_of (lent terms.now cells.now chars.now reasons.old keys.now) c) lhs.now rhs.now }
     ensures { Between (Tries (occurs lhs.now rhs.now or_else occurs rhs.now lhs.now)) (across terms cells chars (changing reasons) keys) c result }
 {
-    let o = occurs_in(terms, cells, chars, reasons, keys, c, lhs, rhs);
+    let o = occurs_in(terms, cells, chars, reasons, keys, c, lhs, rhs)?;
     let StepResult::Done(d) = o else {
-        return o;
+        return Ok(o);
     };
     occurs_in(terms, cells, chars, reasons, keys, d, rhs, lhs)
 }

@@ -1,5 +1,5 @@
 // Step 5: a side of constants against a side with one variable class.
-ghost use Rattle.std.specs.Prelude.{◌≡◌, true, false, suc, ◌+◌, ◌<◌, ◌≤◌, length, drop, get_or, if◌then◌else◌};
+ghost use Rattle.std.specs.Prelude.{◌≡◌, true, false, not, suc, ◌+◌, ◌<◌, ◌≤◌, length, drop, get_or};
 ghost use Rattle.records.specs.Lists.{all};
 ghost use Rattle.records.specs.Store.{is_constant, is_string};
 ghost use Rattle.records.specs.View.{store_of, across, Between, read_in, termed, changing, lent};
@@ -13,12 +13,12 @@ ghost use Rattle.sides.specs.Working.Spans.{FirstVariable, agrees, unfit};
 
 use crate::letters::Cursor;
 use crate::{StepResult, explaining, letters, stripping};
-use records::{Added, State, rules};
+use records::{Kind, Refusal, State, rules};
 
 pub fn first_variable_unchecked(terms: &[u32], c: State, side: &[u32]) -> usize
     ensures { FirstVariable (termed terms.now c) side.now result }
 {
-    letters::first_of_kind_unchecked(terms, c, side, 1, false)
+    letters::first_of_kind_unchecked(terms, c, side, Kind::Constant, false)
 }
 
 // Whether one word for the side's k variables fits: there is a length m with k × m + n = l, where the word has l characters and the side
@@ -38,48 +38,34 @@ fn fits<'a>(
 {
     let l = letters::letters_length_unchecked(terms, c, word);
     let n = letters::letters_length_unchecked(terms, c, side);
-    if l < n {
-        return false;
-    }
-    if (l - n) % k != 0 {
+    if l < n || (l - n) % k != 0 {
         return false;
     }
     let m = (l - n) / k;
-    let place = letters::letters_length_unchecked(terms, c, &side[0..i]);
+    let place = letters::letters_length_unchecked(terms, c, &side[..i]);
     letters::is_tiled(terms, chars, c, word, side, Cursor { atom: 0, place }, m)
 }
 
-// One for a variable, none for a constant.
-fn variable_count(terms: &[u32], c: State, a: u32) -> usize
-    ensures { result ≡ (if is_constant (termed terms.now c) a then 0 else 1) }
+fn is_variable(terms: &[u32], c: State, a: u32) -> bool
+    ensures { result ≡ not (is_constant (termed terms.now c) a) }
 {
-    if rules::kind_of(terms, c.terms, a) == 1 {
-        return 0;
-    }
-    1
+    !rules::is_a(terms, c.terms, a, Kind::Constant)
 }
 
+// The variables of a list, counted.
 pub fn variables_length(terms: &[u32], c: State, l: &[u32]) -> usize
     ensures { result ≡ length (variables (termed terms.now c) l.now) }
 {
-    let mut total: usize = 0;
-    let mut i: usize = 0;
-    while i < l.len() {
-        total += variable_count(terms, c, l[i]);
-        i += 1;
-    }
-    total
+    l.iter().filter(|&&a| is_variable(terms, c, a)).count()
 }
 
 fn atom_agrees(terms: &[u32], chars: &[u32], c: State, a: u32, v: u32) -> bool
-    requires fact_1 { Readable terms.now chars.now c }
-    requires fact_2 { Pair (read_in terms.now chars.now c) a v }
+    requires readable { Readable terms.now chars.now c }
+    requires pair { Pair (read_in terms.now chars.now c) a v }
     ensures { result ≡ agrees (read_in terms.now chars.now c) v a }
 {
-    if rules::kind_of(terms, c.terms, a) == 1 {
-        return true;
-    }
-    stripping::same_unchecked(terms, chars, c, a, v)
+    rules::is_a(terms, c.terms, a, Kind::Constant)
+        || stripping::same_unchecked(terms, chars, c, a, v)
 }
 
 // Whether each variable of a list is the same as v.
@@ -89,12 +75,10 @@ pub fn all_agree_unchecked(terms: &[u32], chars: &[u32], c: State, l: &[u32], v:
     requires v_value { is_string (read_in terms.now chars.now c) v ≡ true }
     ensures { result ≡ all (agrees (read_in terms.now chars.now c) v) l.now }
 {
-    let mut i: usize = 0;
-    while i < l.len() {
-        if !atom_agrees(terms, chars, c, l[i], v) {
+    for &a in l {
+        if !atom_agrees(terms, chars, c, a, v) {
             return false;
         }
-        i += 1;
     }
     true
 }
@@ -109,15 +93,20 @@ fn is_unfit<'a>(
     i: usize,
 ) -> bool
     requires readable { Readable terms.now chars.now c }
-    requires fact { let r = side.now in (length word.now ≤ list_limit) × (is_list (read_in terms.now chars.now c) r ≡ true) × FirstVariable (termed terms.now c) r i × (i < length r) }
+    requires lists { let r = side.now in (length word.now ≤ list_limit) × (is_list (read_in terms.now chars.now c) r ≡ true) × FirstVariable (termed terms.now c) r i × (i < length r) }
     ensures { let s = read_in terms.now chars.now c in result ≡ unfit s word.now side.now (get_or side.now i 0) (variables s (drop (suc i) side.now)) }
 {
-    let later = &side[i + 1..side.len()];
-    if !all_agree_unchecked(terms, chars, c, later, side[i]) {
-        return false;
-    }
-    let k = variables_length(terms, c, later) + 1;
-    !fits(terms, chars, c, word, side, i, k)
+    let later = &side[i + 1..];
+    all_agree_unchecked(terms, chars, c, later, side[i])
+        && !fits(
+            terms,
+            chars,
+            c,
+            word,
+            side,
+            i,
+            variables_length(terms, c, later) + 1,
+        )
 }
 
 // Step 5 on the constant side and the side against it. Departure B: each later variable is explained with the first.
@@ -130,23 +119,20 @@ fn tile_sides<'a>(
     c: State,
     word: &'a [u32],
     side: &'a [u32],
-) -> StepResult
+) -> Result<StepResult, Refusal>
     requires ready { Ready (lent terms.now cells.now chars.now reasons.old keys.now) c }
     requires both_lists { BothLists (store_of (lent terms.now cells.now chars.now reasons.old keys.now) c) word.now side.now }
     ensures { let m = (across terms cells chars (changing reasons) keys).entry in let s = store_of m c in Tries (tile_by s word.now side.now (variables s side.now)) m (across terms cells chars (changing reasons) keys).exit c result }
 {
     let i = first_variable_unchecked(terms, c, side);
-    if side.len() <= i {
-        return StepResult::Done(c);
+    if side.len() <= i || !is_unfit(terms, chars, c, word, side, i) {
+        return Ok(StepResult::Done(c));
     }
-    if !is_unfit(terms, chars, c, word, side, i) {
-        return StepResult::Done(c);
-    }
-    let later = &side[i + 1..side.len()];
-    match explaining::explain_all_unchecked(terms, cells, chars, reasons, keys, c, later, side[i]) {
-        Added::Counts(d) => StepResult::Conflict(d),
-        Added::Refused(k) => StepResult::Refused(k),
-    }
+    let later = &side[i + 1..];
+    let d = explaining::explain_all_unchecked(
+        terms, cells, chars, reasons, keys, c, later, side[i],
+    )?;
+    Ok(StepResult::Conflict(d))
 }
 
 // Step 5 from the left, then from the right. The constant side is picked from the two lists and handed on as it was lent.
@@ -159,7 +145,7 @@ pub fn tile_unchecked<'a>(
     c: State,
     lhs: &'a [u32],
     rhs: &'a [u32],
-) -> StepResult
+) -> Result<StepResult, Refusal>
     requires ready { Ready (lent terms.now cells.now chars.now reasons.old keys.now) c }
     requires both_lists { BothLists (store_of (lent terms.now cells.now chars.now reasons.old keys.now) c) lhs.now rhs.now }
     ensures { Between (Tries (tile lhs.now rhs.now or_else tile rhs.now lhs.now)) (across terms cells chars (changing reasons) keys) c result }

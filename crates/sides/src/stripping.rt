@@ -1,5 +1,5 @@
 // Step 1: same heads and same tails are stripped, class matches explained. Pairs are read from the fronts of two lists or from their ends.
-ghost use Rattle.std.specs.Prelude.{◌≡◌, true, ◌&&◌, [], min, ◌<◌, length, get_or, eqb};
+ghost use Rattle.std.specs.Prelude.{◌≡◌, true, ◌&&◌, [], ◌<◌, length, get_or, eqb};
 ghost use Rattle.records.specs.Lists.{all, same_word};
 ghost use Rattle.records.specs.Store.{term_in, is_constant, is_string, text, same_class};
 ghost use Rattle.records.specs.View.{store_of, terms_view, across, Between, read_in, changing, lent};
@@ -10,21 +10,18 @@ ghost use Rattle.sides.specs.Wordeq.{same, same_heads, matches, explain_matches,
 ghost use Rattle.sides.specs.Working.Stripping.{Readable, Pair, way, Finds, Strips, Needs, Asked};
 
 use crate::{Rest, Stripped};
-use records::{Added, State, classes, fields, rules, text};
+use records::{Kind, Refusal, State, classes, fields, rules, text};
 
 pub fn both_constant(terms: &[u32], n: usize, a: u32, b: u32) -> bool
     ensures { result ≡ (eqb (term_in (terms_view terms.now n) a).kind 1 && eqb (term_in (terms_view terms.now n) b).kind 1) }
 {
-    if rules::kind_of(terms, n, a) != 1 {
-        return false;
-    }
-    rules::kind_of(terms, n, b) == 1
+    rules::is_a(terms, n, a, Kind::Constant) && rules::is_a(terms, n, b, Kind::Constant)
 }
 
 // Whether two constants have equal characters.
 pub(crate) fn same_text(terms: &[u32], chars: &[u32], c: State, a: u32, b: u32) -> bool
     requires readable { Readable terms.now chars.now c }
-    requires b_value { is_constant (read_in terms.now chars.now c) a && is_constant (read_in terms.now chars.now c) b ≡ true }
+    requires constants { is_constant (read_in terms.now chars.now c) a && is_constant (read_in terms.now chars.now c) b ≡ true }
     ensures { result ≡ same_word (text (read_in terms.now chars.now c) a) (text (read_in terms.now chars.now c) b) }
 {
     let k = fields::second(terms, a);
@@ -52,13 +49,12 @@ pub fn same_unchecked(terms: &[u32], chars: &[u32], c: State, a: u32, b: u32) ->
     requires fact_2 { Pair (read_in terms.now chars.now c) a b }
     ensures { result ≡ same (read_in terms.now chars.now c) a b }
 {
-    if a == b {
-        return true;
-    }
-    if both_constant(terms, c.terms, a, b) {
-        return same_text(terms, chars, c, a, b);
-    }
-    same_class_unchecked(terms, chars, c, a, b)
+    a == b
+        || if both_constant(terms, c.terms, a, b) {
+            same_text(terms, chars, c, a, b)
+        } else {
+            same_class_unchecked(terms, chars, c, a, b)
+        }
 }
 
 // Whether they are two constants of equal characters.
@@ -66,10 +62,7 @@ fn is_alike(terms: &[u32], chars: &[u32], c: State, a: u32, b: u32) -> bool
     requires { Readable terms.now chars.now c }
     ensures { let s = read_in terms.now chars.now c in result ≡ (is_constant s a && is_constant s b && same_word (text s a) (text s b)) }
 {
-    if !both_constant(terms, c.terms, a, b) {
-        return false;
-    }
-    same_text(terms, chars, c, a, b)
+    both_constant(terms, c.terms, a, b) && same_text(terms, chars, c, a, b)
 }
 
 // The atom at place i, from the list's end on where `tail` says so.
@@ -77,19 +70,7 @@ pub fn atom_unchecked(l: &[u32], i: usize, tail: bool) -> u32
     requires { i < length l.now }
     ensures { result ≡ get_or (way tail l.now) i 0 }
 {
-    if tail {
-        return l[l.len() - 1 - i];
-    }
-    l[i]
-}
-
-fn shorter(a: usize, b: usize) -> usize
-    ensures { result ≡ min a b }
-{
-    if a < b {
-        return a;
-    }
-    b
+    if tail { l[l.len() - 1 - i] } else { l[i] }
 }
 
 // How many heads of two lists are the same, or how many tails, from the ends on.
@@ -102,21 +83,19 @@ pub(crate) fn count_same(
     tail: bool,
 ) -> usize
     requires readable { Readable terms.now chars.now c }
-    requires lhs_value { all (is_string (read_in terms.now chars.now c)) lhs.now ≡ true }
-    requires rhs_value { all (is_string (read_in terms.now chars.now c)) rhs.now ≡ true }
+    requires lhs_strings { all (is_string (read_in terms.now chars.now c)) lhs.now ≡ true }
+    requires rhs_strings { all (is_string (read_in terms.now chars.now c)) rhs.now ≡ true }
     ensures { result ≡ length (same_heads (read_in terms.now chars.now c) (way tail lhs.now) (way tail rhs.now)) }
 {
-    let n = shorter(lhs.len(), rhs.len());
-    let mut i: usize = 0;
-    while i < n {
+    let n = lhs.len().min(rhs.len());
+    for i in 0..n {
         let x = atom_unchecked(lhs, i, tail);
         let y = atom_unchecked(rhs, i, tail);
         if !same_unchecked(terms, chars, c, x, y) {
             return i;
         }
-        i += 1;
     }
-    i
+    n
 }
 
 // What is left of two lists of string terms without their same heads and then their same tails. It writes nothing.
@@ -127,11 +106,11 @@ pub fn find_rest_unchecked(terms: &[u32], chars: &[u32], c: State, lhs: &[u32], 
     ensures { Finds (read_in terms.now chars.now c) lhs.now rhs.now result }
 {
     let from = count_same(terms, chars, c, lhs, rhs, false);
-    let l = &lhs[from..lhs.len()];
-    let r = &rhs[from..rhs.len()];
+    let l = &lhs[from..];
+    let r = &rhs[from..];
     let n = count_same(terms, chars, c, l, r, true);
     Rest {
-        from: from,
+        from,
         lhs: lhs.len() - n,
         rhs: rhs.len() - n,
     }
@@ -148,19 +127,13 @@ fn explain_pair(
     a: u32,
     b: u32,
     places: &mut [u32],
-) -> Added
-    requires fact_1 { Ready (lent terms.now cells.now chars.now reasons.old keys.now) c }
-    requires fact_2 { Pair (read_in terms.now chars.now c) a b }
+) -> Result<State, Refusal>
+    requires ready { Ready (lent terms.now cells.now chars.now reasons.old keys.now) c }
+    requires pair { Pair (read_in terms.now chars.now c) a b }
     ensures { Does (explain_pair a b) (across terms cells chars (changing reasons) keys) c (added result) }
 {
-    if a == b {
-        return Added::Counts(c);
-    }
-    if is_alike(terms, chars, c, a, b) {
-        return Added::Counts(c);
-    }
-    if !same_class_unchecked(terms, chars, c, a, b) {
-        return Added::Counts(c);
+    if a == b || is_alike(terms, chars, c, a, b) || !same_class_unchecked(terms, chars, c, a, b) {
+        return Ok(c);
     }
     engine::explain_unchecked(terms, cells, chars, reasons, keys, c, a, b, places)
 }
@@ -177,29 +150,20 @@ pub(crate) fn explain_pairs(
     rhs: &[u32],
     tail: bool,
     places: &mut [u32],
-) -> Added
+) -> Result<State, Refusal>
     requires ready { Ready (lent terms.now cells.now chars.now reasons.old keys.now) c }
-    requires lhs_value { all (is_string (read_in terms.now chars.now c)) lhs.now ≡ true }
-    requires rhs_value { all (is_string (read_in terms.now chars.now c)) rhs.now ≡ true }
-    requires lhs_len { length lhs.now ≡ length rhs.now }
+    requires lhs_strings { all (is_string (read_in terms.now chars.now c)) lhs.now ≡ true }
+    requires rhs_strings { all (is_string (read_in terms.now chars.now c)) rhs.now ≡ true }
+    requires one_length { length lhs.now ≡ length rhs.now }
     ensures { Does (nf_explain (way tail lhs.now) (way tail rhs.now)) (across terms cells chars (changing reasons) keys) c (added result) }
 {
     let mut d = c;
-    let mut i: usize = 0;
-    while i < lhs.len() {
+    for i in 0..lhs.len() {
         let a = atom_unchecked(lhs, i, tail);
         let b = atom_unchecked(rhs, i, tail);
-        match explain_pair(terms, cells, chars, reasons, keys, d, a, b, places) {
-            Added::Counts(e) => {
-                d = e;
-            }
-            Added::Refused(k) => {
-                return Added::Refused(k);
-            }
-        }
-        i += 1;
+        d = explain_pair(terms, cells, chars, reasons, keys, d, a, b, places)?;
     }
-    Added::Counts(d)
+    Ok(d)
 }
 
 // The reasons of the matches outside `rest`: heads in order, then tails from the ends on.
@@ -214,26 +178,20 @@ fn explain_stripped(
     rhs: &[u32],
     rest: Rest,
     places: &mut [u32],
-) -> Added
+) -> Result<State, Refusal>
     requires ready { Ready (lent terms.now cells.now chars.now reasons.old keys.now) c }
-    requires lhs_value { all (is_string (read_in terms.now chars.now c)) lhs.now ≡ true }
-    requires rhs_value { all (is_string (read_in terms.now chars.now c)) rhs.now ≡ true }
+    requires lhs_strings { all (is_string (read_in terms.now chars.now c)) lhs.now ≡ true }
+    requires rhs_strings { all (is_string (read_in terms.now chars.now c)) rhs.now ≡ true }
     requires finds { Finds (read_in terms.now chars.now c) lhs.now rhs.now rest }
     ensures { let s = read_in terms.now chars.now c in Does (explain_matches (matches s lhs.now rhs.now)) (across terms cells chars (changing reasons) keys) c (added result) }
 {
     let from = rest.from;
-    let l = &lhs[0..from];
-    let r = &rhs[0..from];
-    match explain_pairs(terms, cells, chars, reasons, keys, c, l, r, false, places) {
-        Added::Counts(d) => {
-            let x = rest.lhs;
-            let y = rest.rhs;
-            let l = &lhs[x..lhs.len()];
-            let r = &rhs[y..rhs.len()];
-            explain_pairs(terms, cells, chars, reasons, keys, d, l, r, true, places)
-        }
-        Added::Refused(k) => Added::Refused(k),
-    }
+    let l = &lhs[..from];
+    let r = &rhs[..from];
+    let d = explain_pairs(terms, cells, chars, reasons, keys, c, l, r, false, places)?;
+    let l = &lhs[rest.lhs..];
+    let r = &rhs[rest.rhs..];
+    explain_pairs(terms, cells, chars, reasons, keys, d, l, r, true, places)
 }
 
 // Whether a match needs a reason: one number and two constants need none.
@@ -250,16 +208,12 @@ fn needs_reason(
 ) -> bool
     requires ready { Ready (lent terms.now cells.now chars.now reasons.now keys.now) c }
     requires pair { Pair (read_in terms.now chars.now c) a b }
-    requires b_value { same (read_in terms.now chars.now c) a b ≡ true }
+    requires alike { same (read_in terms.now chars.now c) a b ≡ true }
     ensures { result ≡ needs_reason (store_of (across terms cells chars reasons keys).entry c) (a, b) }
 {
-    if a == b {
-        return false;
-    }
-    if both_constant(terms, c.terms, a, b) {
-        return false;
-    }
-    engine::is_reasoned_unchecked(terms, cells, chars, reasons, keys, c, a, b, places)
+    a != b
+        && !both_constant(terms, c.terms, a, b)
+        && engine::is_reasoned_unchecked(terms, cells, chars, reasons, keys, c, a, b, places)
 }
 
 // Whether a pair of two lists that are atom by atom the same needs a reason, asked from their fronts or from their ends on.
@@ -276,19 +230,17 @@ fn pairs_need(
     places: &mut [u32],
 ) -> bool
     requires ready { Ready (lent terms.now cells.now chars.now reasons.now keys.now) c }
-    requires lhs_value { all (is_string (read_in terms.now chars.now c)) lhs.now ≡ true }
-    requires rhs_value { all (is_string (read_in terms.now chars.now c)) rhs.now ≡ true }
-    requires rhs_value_2 { nf_equal (read_in terms.now chars.now c) (way tail lhs.now) (way tail rhs.now) ≡ true }
+    requires lhs_strings { all (is_string (read_in terms.now chars.now c)) lhs.now ≡ true }
+    requires rhs_strings { all (is_string (read_in terms.now chars.now c)) rhs.now ≡ true }
+    requires equal { nf_equal (read_in terms.now chars.now c) (way tail lhs.now) (way tail rhs.now) ≡ true }
     ensures { let s = read_in terms.now chars.now c in Needs (across terms cells chars reasons keys).entry c (same_heads s (way tail lhs.now) (way tail rhs.now)) result }
 {
-    let mut i: usize = 0;
-    while i < lhs.len() {
+    for i in 0..lhs.len() {
         let u = atom_unchecked(lhs, i, tail);
         let v = atom_unchecked(rhs, i, tail);
         if needs_reason(terms, cells, chars, reasons, keys, c, u, v, places) {
             return true;
         }
-        i += 1;
     }
     false
 }
@@ -307,26 +259,22 @@ fn matches_need(
     places: &mut [u32],
 ) -> bool
     requires ready { Ready (lent terms.now cells.now chars.now reasons.now keys.now) c }
-    requires lhs_value { all (is_string (read_in terms.now chars.now c)) lhs.now ≡ true }
-    requires rhs_value { all (is_string (read_in terms.now chars.now c)) rhs.now ≡ true }
+    requires lhs_strings { all (is_string (read_in terms.now chars.now c)) lhs.now ≡ true }
+    requires rhs_strings { all (is_string (read_in terms.now chars.now c)) rhs.now ≡ true }
     requires finds { Finds (read_in terms.now chars.now c) lhs.now rhs.now rest }
     ensures { Asked (across terms cells chars reasons keys).entry c lhs.now rhs.now rest.from rest.lhs rest.rhs result }
 {
     let from = rest.from;
-    if rest.lhs == from {
-        if rest.rhs == from {
-            return false;
-        }
+    if rest.lhs == from && rest.rhs == from {
+        return false;
     }
-    let l = &lhs[0..from];
-    let r = &rhs[0..from];
+    let l = &lhs[..from];
+    let r = &rhs[..from];
     if pairs_need(terms, cells, chars, reasons, keys, c, l, r, false, places) {
         return true;
     }
-    let x = rest.lhs;
-    let y = rest.rhs;
-    let l = &lhs[x..lhs.len()];
-    let r = &rhs[y..rhs.len()];
+    let l = &lhs[rest.lhs..];
+    let r = &rhs[rest.rhs..];
     pairs_need(terms, cells, chars, reasons, keys, c, l, r, true, places)
 }
 
@@ -342,22 +290,24 @@ fn strip_by(
     rhs: &[u32],
     rest: Rest,
     places: &mut [u32],
-) -> Stripped
+) -> Result<Stripped, Refusal>
     requires ready { Ready (lent terms.now cells.now chars.now reasons.old keys.now) c }
-    requires lhs_value { all (is_string (read_in terms.now chars.now c)) lhs.now ≡ true }
-    requires rhs_value { all (is_string (read_in terms.now chars.now c)) rhs.now ≡ true }
+    requires lhs_strings { all (is_string (read_in terms.now chars.now c)) lhs.now ≡ true }
+    requires rhs_strings { all (is_string (read_in terms.now chars.now c)) rhs.now ≡ true }
     requires finds { Finds (read_in terms.now chars.now c) lhs.now rhs.now rest }
     ensures { Between Strips (across terms cells chars (changing reasons) keys) c lhs.now rhs.now result }
 {
     let needed = matches_need(
         terms, cells, chars, reasons, keys, c, lhs, rhs, rest, places,
     );
-    match explain_stripped(
+    let counts = explain_stripped(
         terms, cells, chars, reasons, keys, c, lhs, rhs, rest, places,
-    ) {
-        Added::Counts(d) => Stripped::Parts(d, rest.from, rest.lhs, rest.rhs, needed),
-        Added::Refused(k) => Stripped::Refused(k),
-    }
+    )?;
+    Ok(Stripped {
+        counts,
+        rest,
+        needed,
+    })
 }
 
 // Step 1 on two lists of string terms: what is left is found, and then each match is explained. To clear the table of places costs more than
@@ -371,7 +321,7 @@ pub fn strip_unchecked(
     c: State,
     lhs: &[u32],
     rhs: &[u32],
-) -> Stripped
+) -> Result<Stripped, Refusal>
     requires ready { Ready (lent terms.now cells.now chars.now reasons.old keys.now) c }
     requires lhs_value { all (is_string (read_in terms.now chars.now c)) lhs.now ≡ true }
     requires rhs_value { all (is_string (read_in terms.now chars.now c)) rhs.now ≡ true }

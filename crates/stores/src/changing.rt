@@ -1,9 +1,10 @@
-// The commands that change words.
+// The commands that change words, counts and lengths.
+use crate::Store;
 use lines::indexing::term_place;
+use lines::lending::Lens;
+use lines::reading::Command;
 use lines::{put, put_all};
-use records::fields::word;
-use records::{CELL_WIDTH, TERM_WIDTH};
-use std::num::{wrapping_add_u32, wrapping_add_usize};
+use records::{CELL_WIDTH, State, TERM_WIDTH};
 
 // The good store. Variables x and y, merged by a7.
 const GOOD_VARIABLES: [u32; 18] = [2, 0, 1, 1, 1, 0, 0, 0, 0, 2, 1, 1, 1, 1, 1, 7, 1, 0];
@@ -39,108 +40,101 @@ fn good_cells(cells: &mut [u32]) {
     put_all(cells, 5 * CELL_WIDTH, &GOOD_PAIRS);
 }
 
-fn good(
-    terms: &mut [u32],
-    cells: &mut [u32],
-    chars: &mut [u32],
-    reasons: &mut [u32],
-    keys: &mut [u32],
-) {
-    good_terms(terms);
-    good_cells(cells);
-    put_all(chars, 0, &GOOD_CHARS);
-    put_all(reasons, 0, &GOOD_REASONS);
-    put_all(keys, 0, &GOOD_KEYS);
+// With no word to spare.
+fn good(s: &mut Store) {
+    good_terms(&mut s.terms);
+    good_cells(&mut s.cells);
+    put_all(&mut s.chars, 0, &GOOD_CHARS);
+    put_all(&mut s.reasons, 0, &GOOD_REASONS);
+    put_all(&mut s.keys, 0, &GOOD_KEYS);
+    s.counts = State::of(6, 6, 2, 1, 1, 0);
+    s.lens = Lens {
+        terms: 127,
+        cells: 21,
+        chars: 2,
+        reasons: 2,
+        keys: 2,
+    };
 }
 
-// Words of one slice, by the slice's number: `many` from `from` on, `apart` places apart, the first x, each `more` above the one before.
-#[derive(Clone, Copy)]
-struct Filling {
-    slice: u32,
-    from: usize,
-    many: u32,
-    apart: usize,
-    x: u32,
-    more: u32,
-}
-
-fn fill(s: &mut [u32], f: Filling) {
-    let mut at = f.from;
-    let mut y = f.x;
-    let mut i: u32 = 0;
-    while i < f.many {
-        put(s, at, y);
-        at = wrapping_add_usize(at, f.apart);
-        y = wrapping_add_u32(y, f.more);
-        i += 1;
+// `many` words from `from` on, `apart` places apart, the first x, each `more` above the one before.
+fn fill_slice(s: &mut [u32], c: Command<'_>) {
+    let apart = c.number(4) as usize;
+    let more = c.number(6);
+    let mut at = c.number(2) as usize;
+    let mut x = c.number(5);
+    for _ in 0..c.number(3) {
+        put(s, at, x);
+        at = at.wrapping_add(apart);
+        x = x.wrapping_add(more);
     }
 }
 
-fn one(slice: u32, at: usize, x: u32) -> Filling {
-    Filling {
-        slice: slice,
-        from: at,
-        many: 1,
-        apart: 0,
-        x: x,
-        more: 0,
+fn fill(c: Command<'_>, s: &mut Store) {
+    match c.number(1) {
+        1 => fill_slice(&mut s.terms, c),
+        2 => fill_slice(&mut s.cells, c),
+        3 => fill_slice(&mut s.chars, c),
+        4 => fill_slice(&mut s.reasons, c),
+        5 => fill_slice(&mut s.keys, c),
+        6 => fill_slice(&mut s.list, c),
+        _ => {}
     }
 }
 
-fn many(n: &[u32]) -> Filling {
-    Filling {
-        slice: word(n, 1),
-        from: word(n, 2) as usize,
-        many: word(n, 3),
-        apart: word(n, 4) as usize,
-        x: word(n, 5),
-        more: word(n, 6),
+fn counts_of(c: Command<'_>) -> State {
+    State::of(
+        c.number(1) as usize,
+        c.number(2) as usize,
+        c.number(3) as usize,
+        c.number(4) as usize,
+        c.number(5) as usize,
+        c.number(6),
+    )
+}
+
+fn lens_of(c: Command<'_>) -> Lens {
+    Lens {
+        terms: c.number(1) as usize,
+        cells: c.number(2) as usize,
+        chars: c.number(3) as usize,
+        reasons: c.number(4) as usize,
+        keys: c.number(5) as usize,
     }
 }
 
-// The words that a command changes; no slice has the number 0.
-fn words_of(l: u8, n: &[u32]) -> Filling {
-    let a = word(n, 1) as usize;
-    let b = word(n, 2) as usize;
-    match l {
-        84 => one(1, term_place(word(n, 1), b), word(n, 3)),
-        73 => one(1, a, word(n, 2)),
-        69 => one(2, CELL_WIDTH * a + b, word(n, 3)),
-        72 => one(3, a, word(n, 2)),
-        82 => one(4, a, word(n, 2)),
-        75 => one(5, a, word(n, 2)),
-        70 => many(n),
-        _ => one(0, 0, 0),
+// The commands after which the index is put anew. Answers whether it was one.
+pub(crate) fn change_records(c: Command<'_>, s: &mut Store) -> bool {
+    let at = c.number(1) as usize;
+    let i = c.number(2) as usize;
+    match c.letter {
+        b'G' => good(s),
+        b'O' => {
+            s.counts = State::of(0, 0, 0, 0, 0, 0);
+            s.lens = Lens::WHOLE;
+        }
+        b'N' => s.counts = counts_of(c),
+        b'T' => put(&mut s.terms, term_place(c.number(1), i), c.number(3)),
+        b'E' => put(&mut s.cells, CELL_WIDTH * at + i, c.number(3)),
+        b'H' => put(&mut s.chars, at, c.number(2)),
+        b'F' => fill(c, s),
+        _ => return false,
     }
+    true
 }
 
-pub(crate) fn change(
-    l: u8,
-    n: &[u32],
-    terms: &mut [u32],
-    cells: &mut [u32],
-    chars: &mut [u32],
-    reasons: &mut [u32],
-    keys: &mut [u32],
-    list: &mut [u32],
-) {
-    if l == 71 {
-        good(terms, cells, chars, reasons, keys);
-        return;
-    }
-    if l == 87 {
-        put_all(list, 0, n);
-        return;
-    }
-    let f = words_of(l, n);
-    let slice = f.slice;
-    match slice {
-        1 => fill(terms, f),
-        2 => fill(cells, f),
-        3 => fill(chars, f),
-        4 => fill(reasons, f),
-        5 => fill(keys, f),
-        6 => fill(list, f),
+pub(crate) fn change(c: Command<'_>, s: &mut Store) {
+    let at = c.number(1) as usize;
+    match c.letter {
+        b'L' => s.lens = lens_of(c),
+        b'I' => put(&mut s.terms, at, c.number(2)),
+        b'R' => put(&mut s.reasons, at, c.number(2)),
+        b'K' => put(&mut s.keys, at, c.number(2)),
+        b'W' => {
+            put_all(&mut s.list, 0, c.numbers);
+            s.listed = c.last;
+        }
+        b'Z' => s.listed = at,
         _ => {}
     }
 }

@@ -18,18 +18,18 @@
 
 mod asking;
 mod changing;
-mod counting;
 mod keeping;
 mod saying;
 
-use crate::asking::{ask_audit, ask_make};
-use crate::changing::change;
-use crate::counting::{counts_of, lens_of, recount};
+use crate::asking::{ask_audit, ask_make, making_of};
+use crate::changing::{change, change_records};
 use lines::indexing::put_index;
-use lines::input::read_text;
-use lines::reading::{letter, line_end, read_line};
+use lines::input::{TEXT_LIMIT, read_text};
+use lines::lending::{Lens, Lent, front, front_mut};
+use lines::reading::{Command, letter, numbers, read_line};
 use records::{
-    CELL_LIMIT, CELL_WIDTH, CHAR_LIMIT, KEY_LIMIT, REASON_LIMIT, State, TERM_SLICE, TERM_WIDTH,
+    CELL_LIMIT, CELL_WIDTH, CHAR_LIMIT, KEY_LIMIT, REASON_LIMIT, State, TERM_LIMIT, TERM_SLICE,
+    TERM_WIDTH,
 };
 use std::io;
 
@@ -40,122 +40,101 @@ pub(crate) const CELL_WORDS: usize = CELL_WIDTH * (CELL_LIMIT + 2);
 
 pub(crate) const CHAR_WORDS: usize = CHAR_LIMIT + 8;
 
-pub(crate) const REASON_WORDS: usize = 2 * (REASON_LIMIT + 1);
+const REASON_WORDS: usize = 2 * (REASON_LIMIT + 1);
 
-pub(crate) const KEY_WORDS: usize = 2 * (KEY_LIMIT + 1);
-
-// How many bytes of standard input are read; what follows them is not.
-const TEXT_LIMIT: usize = 65536;
+const KEY_WORDS: usize = 2 * (KEY_LIMIT + 1);
 
 // The numbers of a line, its letter before them.
 const NUMBERS: usize = 64;
 
-// How many words of each slice are lent.
-#[derive(Clone, Copy)]
-pub(crate) struct Lens {
-    pub terms: usize,
-    pub cells: usize,
-    pub chars: usize,
-    pub reasons: usize,
-    pub keys: usize,
-}
-
-// What lasts from line to line beside the words.
-#[derive(Clone, Copy)]
-pub(crate) struct Setup {
+// What lasts from line to line: the slices, what is counted of them, and how many words of each are lent; and the list, with its length.
+#[derive(Drop)]
+pub(crate) struct Store {
+    pub terms: [u32; TERM_WORDS],
+    pub cells: [u32; CELL_WORDS],
+    pub chars: [u32; CHAR_WORDS],
+    pub reasons: [u32; REASON_WORDS],
+    pub keys: [u32; KEY_WORDS],
     pub counts: State,
     pub lens: Lens,
-    pub list: usize,
+    pub list: [u32; CHAR_WORDS],
+    pub listed: usize,
 }
 
-// A count as a word.
-fn narrow(x: usize) -> u32 {
-    if x < 65536 {
-        return x as u32;
+// How many terms are counted, or more than there can be.
+pub(crate) fn terms_of(c: State) -> u32 {
+    c.terms.min(TERM_LIMIT) as u32
+}
+
+impl Store {
+    fn new() -> Store {
+        Store {
+            terms: [0; TERM_WORDS],
+            cells: [0; CELL_WORDS],
+            chars: [0; CHAR_WORDS],
+            reasons: [0; REASON_WORDS],
+            keys: [0; KEY_WORDS],
+            counts: State::of(0, 0, 0, 0, 0, 0),
+            lens: Lens {
+                terms: 0,
+                cells: 0,
+                chars: 0,
+                reasons: 0,
+                keys: 0,
+            },
+            list: [0; CHAR_WORDS],
+            listed: 0,
+        }
     }
-    65535
-}
 
-// The commands after which the index is put anew.
-fn is_record(l: u8) -> bool {
-    match l {
-        71 | 79 | 78 | 84 | 69 | 72 | 70 => true,
-        _ => false,
-    }
-}
-
-fn is_making(l: u8) -> bool {
-    match l {
-        99 | 118 | 112 | 108 | 101 => true,
-        _ => false,
-    }
-}
-
-fn step(
-    rt: &impl Print,
-    line: &[u8],
-    terms: &mut [u32],
-    cells: &mut [u32],
-    chars: &mut [u32],
-    reasons: &mut [u32],
-    keys: &mut [u32],
-    list: &mut [u32],
-    was: Setup,
-) -> io::Result<Setup> {
-    let mut n: [u32; NUMBERS] = [0; NUMBERS];
-    let l = letter(line);
-    let p = read_line(line, &mut n);
-    let at = p.at;
-    let name = &line[at..];
-    if is_making(l) {
-        return ask_make(
-            rt, l, &n, name, terms, cells, chars, reasons, keys, list, was,
+    // The slices and the list as they are lent.
+    pub fn lent(&mut self) -> (Lent<'_>, &[u32]) {
+        let z = self.lens;
+        let n = self.listed;
+        let terms = &mut self.terms;
+        let cells = &mut self.cells;
+        let chars = &mut self.chars;
+        let reasons = &mut self.reasons;
+        let keys = &mut self.keys;
+        let list = &self.list;
+        let slices = (
+            front_mut(terms, z.terms),
+            front_mut(cells, z.cells),
+            front_mut(chars, z.chars),
+            front_mut(reasons, z.reasons),
+            front_mut(keys, z.keys),
         );
+        (slices, numbers(list, n))
     }
-    if l == 65 {
-        ask_audit(rt, name, terms, cells, chars, reasons, keys, was)?;
-        return Ok(was);
-    }
-    change(l, &n, terms, cells, chars, reasons, keys, list);
-    let s = recount(l, &n, p.count, was);
-    let c = s.counts;
-    if !is_record(l) {
-        return Ok(s);
-    }
-    put_index(terms, cells, chars, narrow(c.terms));
-    Ok(s)
 }
 
-fn run(
-    rt: &impl Print,
-    text: &[u8],
-    terms: &mut [u32],
-    cells: &mut [u32],
-    chars: &mut [u32],
-    reasons: &mut [u32],
-    keys: &mut [u32],
-    list: &mut [u32],
-) -> io::Result<()> {
-    let mut s = Setup {
-        counts: counts_of(0, 0, 0, 0, 0, 0),
-        lens: lens_of(0, 0, 0, 0, 0),
-        list: 0,
+fn step(rt: &impl Print, line: &[u8], s: &mut Store) -> io::Result<()> {
+    let mut n: [u32; NUMBERS] = [0; NUMBERS];
+    let p = read_line(line, &mut n);
+    let name = &line[p.at..];
+    let c = Command {
+        letter: letter(line),
+        numbers: &n,
+        last: p.count,
     };
-    let mut at: usize = 0;
-    while at < text.len() {
-        let e = line_end(text, at);
-        s = step(
-            rt,
-            &text[at..e],
-            terms,
-            cells,
-            chars,
-            reasons,
-            keys,
-            list,
-            s,
-        )?;
-        at = e + 1;
+    if let Some(m) = making_of(c) {
+        return ask_make(rt, m, name, s);
+    }
+    if c.letter == b'A' {
+        return ask_audit(rt, name, s);
+    }
+    if change_records(c, s) {
+        let most = terms_of(s.counts);
+        put_index(&mut s.terms, &s.cells, &s.chars, most);
+    } else {
+        change(c, s);
+    }
+    Ok(())
+}
+
+fn run(rt: &impl Print, text: &[u8], s: &mut Store) -> io::Result<()> {
+    for line in text.split(|&b| b == b'\n') {
+        step(rt, line, s)?;
     }
     Ok(())
 }
@@ -163,20 +142,6 @@ fn run(
 fn main(rt: HostRuntime) -> io::Result<()> {
     let mut text = [0u8; TEXT_LIMIT];
     let len = read_text(&rt, &mut text)?;
-    let mut terms: [u32; TERM_WORDS] = [0; TERM_WORDS];
-    let mut cells: [u32; CELL_WORDS] = [0; CELL_WORDS];
-    let mut chars: [u32; CHAR_WORDS] = [0; CHAR_WORDS];
-    let mut reasons: [u32; REASON_WORDS] = [0; REASON_WORDS];
-    let mut keys: [u32; KEY_WORDS] = [0; KEY_WORDS];
-    let mut list: [u32; CHAR_WORDS] = [0; CHAR_WORDS];
-    run(
-        &rt,
-        &text[..len],
-        &mut terms,
-        &mut cells,
-        &mut chars,
-        &mut reasons,
-        &mut keys,
-        &mut list,
-    )
+    let mut s = Store::new();
+    run(&rt, front(&text, len), &mut s)
 }

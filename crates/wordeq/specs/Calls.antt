@@ -1,14 +1,14 @@
 -- What the public calls of word equations promise.
-use Rattle.std.specs.Prelude.{◌≡◌, Bool, ◌&&◌, List, take, ℕ, ◌+◌, ℤ}
+use Rattle.std.specs.Prelude.{◌≡◌, Bool, ◌&&◌, List, take, ℕ, ◌+◌, ℤ, Result, Ok, Err}
 use Rattle.records.specs.declared.State.{State}
+use Rattle.records.specs.declared.refusal.Refusal.{Refusal}
+use Rattle.records.specs.Refusal.{number}
 use Rattle.records.specs.Store.{Store, Out, ok, stop, Work, count}
 use Rattle.records.specs.View.{Lent, store_of}
 use Rattle.records.specs.Make.{EachOnce}
 use Rattle.records.specs.Rules.{is_list}
 use Rattle.records.specs.Calls.{Public, call, full_alone}
 use Rattle.normalize.specs.Calls.{list_call, PublicList}
-use Rattle.wordeq.specs.declared.Equality.{Equality}
-use Rattle.wordeq.specs.declared.Equality.TheVariants as equality
 use Rattle.sides.specs.declared.StepResult.{StepResult}
 use Rattle.sides.specs.declared.StepResult.TheVariants as step
 use Rattle.sides.specs.Wordeq.{Answer, done, saturated, conflict, propagate, split, resolve, resolve_arguments, nf_equal, nf_explain, nf_arguments}
@@ -26,9 +26,9 @@ unfoldable pub equal_lists : List ℕ → List ℕ → Work Bool
 equal_lists l r = λ s. ok s (nf_equal s l r)
 
 -- nf_equal's answer; the store is as it was
-abbrev pub compared : Equality → Lent → State → Out Bool
-compared (equality.Is b) m c = ok (store_of m c) b
-compared (equality.Refused k) m c = stop k
+abbrev pub compared : Result Bool Refusal → Lent → State → Out Bool
+compared (Ok b) m c = ok (store_of m c) b
+compared (Err e) m c = stop (number e)
 
 -- nf_equal_explain's answer, and what it is worth: under the reasons at exit and the definitional merges two lists that nf_equal calls
 -- equal have equal words. The reasons at exit are those at entry and then reasons that the list lacked, each once. Once the arguments pass,
@@ -42,13 +42,13 @@ pub record PublicEqualExplain (l r : List ℕ) (m m' : Lent) (c : State) (o : Ou
 -- RESOLVE_EQUATION
 
 -- a resolved equation's answer; a Split's atoms are the first words of the list's slice k
-abbrev pub resolved : StepResult → Lent → List ℕ → Out Answer
-resolved (step.Done c) m k = ok (store_of m c) done
-resolved (step.Saturated c) m k = ok (store_of m c) saturated
-resolved (step.Conflict c) m k = ok (store_of m c) conflict
-resolved (step.Propagate c v w f) m k = ok (store_of m c) (propagate v w f)
-resolved (step.Split c n g j) m k = ok (store_of m c) (split (take n k) g j)
-resolved (step.Refused n) m k = stop n
+abbrev pub resolved : Result StepResult Refusal → Lent → List ℕ → Out Answer
+resolved (Ok (step.Done c)) m k = ok (store_of m c) done
+resolved (Ok (step.Saturated c)) m k = ok (store_of m c) saturated
+resolved (Ok (step.Conflict c)) m k = ok (store_of m c) conflict
+resolved (Ok (step.Propagate c v w f)) m k = ok (store_of m c) (propagate v w f)
+resolved (Ok (step.Split c n g j)) m k = ok (store_of m c) (split (take n k) g j)
+resolved (Err e) m k = stop (number e)
 
 -- its answer, and what it is worth: demand 3. The reasons at exit are those at entry and then reasons that the list lacked, each once. A
 -- Split's number 'equals the growth of the term count within wordeq'. One repeated field v is decided exactly

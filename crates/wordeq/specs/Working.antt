@@ -3,4 +3,3 @@ pub mod Splits
 pub mod Resolving
 pub mod Propagates
 pub mod Heads
-pub mod Cuts

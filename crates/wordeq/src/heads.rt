@@ -13,8 +13,7 @@ ghost use Rattle.wordeq.specs.Working.Splits.{listed};
 ghost use Rattle.wordeq.specs.Working.Heads.{HeadsApart, HeadPair, atoms_of, split_new};
 
 use crate::splits;
-use normalize::Form;
-use records::{Added, State, fields, put};
+use records::{Refusal, State, fields, put};
 use sides::{StepResult, letters, stripping};
 
 // The guard negated: the lowest i32, which has no opposite, is no guard.
@@ -44,7 +43,7 @@ fn put_atoms(
     a: u32,
     b: u32,
     list: &mut [u32],
-) -> Form
+) -> Result<(usize, State), Refusal>
     requires ready { Ready (lent terms.old cells.old chars.old reasons.now keys.now) c }
     requires head_pair { HeadPair (store_of (lent terms.old cells.old chars.old reasons.now keys.now) c) a b }
     requires in_bounds { 3 ≤ length list.old }
@@ -52,13 +51,13 @@ fn put_atoms(
 {
     if letters::is_full_unchecked(terms, c, b) {
         let x = first_letter(terms, chars, c, b);
-        return splits::split_character_unchecked(terms, cells, chars, reasons, keys, c, a, x, list);
-    }
-    if letters::is_full_unchecked(terms, c, a) {
+        splits::split_character_unchecked(terms, cells, chars, reasons, keys, c, a, x, list)
+    } else if letters::is_full_unchecked(terms, c, a) {
         let y = first_letter(terms, chars, c, a);
-        return splits::split_character_unchecked(terms, cells, chars, reasons, keys, c, b, y, list);
+        splits::split_character_unchecked(terms, cells, chars, reasons, keys, c, b, y, list)
+    } else {
+        splits::split_heads_unchecked(terms, cells, chars, reasons, keys, c, a, b, list)
     }
-    splits::split_heads_unchecked(terms, cells, chars, reasons, keys, c, a, b, list)
 }
 
 // Two heads whose pair is no key: the key, then the atoms and how many terms they took.
@@ -73,7 +72,7 @@ fn split_new(
     b: u32,
     guard: i32,
     list: &mut [u32],
-) -> StepResult
+) -> Result<StepResult, Refusal>
     requires ready { Ready (lent terms.old cells.old chars.old reasons.now keys.old) c }
     requires head_pair { HeadPair (store_of (lent terms.old cells.old chars.old reasons.now keys.old) c) a b }
     requires guard_value { is_guard guard ≡ true }
@@ -81,20 +80,10 @@ fn split_new(
     ensures { Does (split_new guard a b) (across (changing terms) (changing cells) (changing chars) reasons (changing keys)) c (tried result into changing list) }
 {
     let opposite = negated(guard);
-    let key = put::add_key_unchecked(terms, cells, chars, reasons, keys, c, a, b);
-    match key {
-        Added::Counts(d) => {
-            let atoms = put_atoms(terms, cells, chars, reasons, keys, d, a, b, list);
-            match atoms {
-                Form::List(n, e) => {
-                    let more = (e.terms - d.terms) as u32;
-                    StepResult::Split(e, n, opposite, more)
-                }
-                Form::Refused(k) => StepResult::Refused(k),
-            }
-        }
-        Added::Refused(k) => StepResult::Refused(k),
-    }
+    let d = put::add_key_unchecked(terms, cells, chars, reasons, keys, c, a, b)?;
+    let (n, e) = put_atoms(terms, cells, chars, reasons, keys, d, a, b, list)?;
+    let more = (e.terms - d.terms) as u32;
+    Ok(StepResult::Split(e, n, opposite, more))
 }
 
 // Two constant heads that differ at a character: Conflict. A variable head: Saturated where a stripped match needs a reason or the head pair is a
@@ -111,7 +100,7 @@ pub(crate) fn split_unchecked(
     guard: i32,
     needed: bool,
     list: &mut [u32],
-) -> StepResult
+) -> Result<StepResult, Refusal>
     requires ready { Ready (lent terms.old cells.old chars.old reasons.now keys.old) c }
     requires both_lists { BothLists (store_of (lent terms.old cells.old chars.old reasons.now keys.old) c) lhs.now rhs.now }
     requires heads_apart { HeadsApart lhs.now rhs.now }
@@ -119,25 +108,19 @@ pub(crate) fn split_unchecked(
     requires list_limit_in_bounds { list_limit ≤ length list.old }
     ensures { let l = lhs.now in let r = rhs.now in Does (clashes l r or_else splits guard needed l r) (across (changing terms) (changing cells) (changing chars) reasons (changing keys)) c (tried result into changing list) }
 {
-    if lhs.len() == 0 {
-        return StepResult::Done(c);
-    }
-    if rhs.len() == 0 {
-        return StepResult::Done(c);
+    if lhs.is_empty() || rhs.is_empty() {
+        return Ok(StepResult::Done(c));
     }
     let a = lhs[0];
     let b = rhs[0];
     if letters::constants_differ_unchecked(terms, chars, c, a, b) {
-        return StepResult::Conflict(c);
+        return Ok(StepResult::Conflict(c));
     }
     if stripping::both_constant(terms, c.terms, a, b) {
-        return StepResult::Done(c);
+        return Ok(StepResult::Done(c));
     }
-    if needed {
-        return StepResult::Saturated(c);
-    }
-    if put::is_key_unchecked(keys, c.keys, a, b) {
-        return StepResult::Saturated(c);
+    if needed || put::is_key_unchecked(keys, c.keys, a, b) {
+        return Ok(StepResult::Saturated(c));
     }
     split_new(terms, cells, chars, reasons, keys, c, a, b, guard, list)
 }

@@ -1,16 +1,14 @@
 // Word equations, steps 1 to 8: the public calls.
 #![tactic(auto)]
 
-ghost use Rattle.std.specs.Prelude.{◌≡◌, ◌≤◌, length};
-ghost use Rattle.records.specs.View.{across, termed, term_limit, term_words, changing};
-ghost use Rattle.records.specs.Working.Doing.{CutRefused};
+ghost use Rattle.std.specs.Prelude.{◌≡◌};
+ghost use Rattle.records.specs.View.{across, termed, changing};
 ghost use Rattle.records.specs.Calls.{added, Answers, Promises, Writes};
 ghost use Rattle.sides.specs.Wordeq.{is_guard, resolve_arguments, nf_arguments};
 ghost use Rattle.wordeq.specs.Calls.{equal_arguments, equal_lists, compared, PublicEqualExplain, PublicResolve, resolved};
-ghost use Rattle.wordeq.specs.Working.Cuts.{unresolved};
 
-use records::index::cut_unchecked;
-use records::{Added, LIST_LIMIT, State, rules};
+use records::index::cut_refused_unchecked;
+use records::{LIST_LIMIT, Refusal, State, rules};
 use sides::{StepResult, equal_lists};
 
 mod heads;
@@ -19,31 +17,18 @@ pub mod resolving;
 pub mod splits;
 mod stepping;
 
-// Whether two lists are equal, or the refusal.
-#[derive(Clone, Copy)]
-pub enum Equality {
-    Is(bool),
-    Refused(u32),
-}
-
 // Two lists of string terms, at most 1,024 each.
 pub fn are_lists(terms: &[u32], c: State, lhs: &[u32], rhs: &[u32]) -> bool
     ensures { result ≡ equal_arguments lhs.now rhs.now (termed terms.now c) }
 {
-    if !rules::is_list(terms, c, lhs) {
-        return false;
-    }
-    rules::is_list(terms, c, rhs)
+    rules::is_list(terms, c, lhs) && rules::is_list(terms, c, rhs)
 }
 
 // Two such lists of equal length.
 fn can_pair(terms: &[u32], c: State, lhs: &[u32], rhs: &[u32]) -> bool
     ensures { result ≡ nf_arguments lhs.now rhs.now (termed terms.now c) }
 {
-    if !are_lists(terms, c, lhs, rhs) {
-        return false;
-    }
-    lhs.len() == rhs.len()
+    are_lists(terms, c, lhs, rhs) && lhs.len() == rhs.len()
 }
 
 // Whether two lists are atom by atom the same.
@@ -56,17 +41,14 @@ pub fn nf_equal(
     c: State,
     lhs: &[u32],
     rhs: &[u32],
-) -> Equality
+) -> Result<bool, Refusal>
     ensures { let l = lhs.now in let r = rhs.now in Answers (equal_arguments l r) (equal_lists l r) (across terms cells chars reasons keys) c (λ m. compared result m c) }
 {
-    let k = records::audit(terms, cells, chars, reasons, keys, c);
-    if k != 0 {
-        return Equality::Refused(k);
-    }
+    records::audit(terms, cells, chars, reasons, keys, c)?;
     if !are_lists(terms, c, lhs, rhs) {
-        return Equality::Refused(5);
+        return Err(Refusal::Argument);
     }
-    Equality::Is(equal_lists::nf_equal_unchecked(terms, chars, c, lhs, rhs))
+    Ok(equal_lists::nf_equal_unchecked(terms, chars, c, lhs, rhs))
 }
 
 // The reasons why the pairs of one class in two lists of equal length are equal, after those that are there.
@@ -79,15 +61,12 @@ pub fn nf_equal_explain(
     c: State,
     lhs: &[u32],
     rhs: &[u32],
-) -> Added
+) -> Result<State, Refusal>
     ensures { Promises (PublicEqualExplain lhs.now rhs.now) (across terms cells chars (changing reasons) keys) c (added result) }
 {
-    let k = records::audit(terms, cells, chars, reasons, keys, c);
-    if k != 0 {
-        return Added::Refused(k);
-    }
+    records::audit(terms, cells, chars, reasons, keys, c)?;
     if !can_pair(terms, c, lhs, rhs) {
-        return Added::Refused(5);
+        return Err(Refusal::Argument);
     }
     equal_lists::nf_equal_explain_unchecked(terms, cells, chars, reasons, keys, c, lhs, rhs)
 }
@@ -96,23 +75,14 @@ pub fn nf_equal_explain(
 pub fn is_guard(g: i32) -> bool
     ensures { result ≡ is_guard g }
 {
-    if g == 0 {
-        return false;
-    }
-    if g == -2147483648 {
-        return false;
-    }
-    true
+    g != 0 && g != i32::MIN
 }
 
 // Two lists of string terms, and a guard.
 fn can_resolve(terms: &[u32], c: State, lhs: &[u32], rhs: &[u32], guard: i32) -> bool
     ensures { result ≡ resolve_arguments lhs.now rhs.now guard (termed terms.now c) }
 {
-    if !are_lists(terms, c, lhs, rhs) {
-        return false;
-    }
-    is_guard(guard)
+    are_lists(terms, c, lhs, rhs) && is_guard(guard)
 }
 
 // The word equation between two lists; a Split's atoms are the first words of `list`.
@@ -127,36 +97,18 @@ pub fn resolve_equation<'a>(
     rhs: &'a [u32],
     guard: i32,
     list: &mut [u32],
-) -> StepResult
+) -> Result<StepResult, Refusal>
     ensures { Writes (PublicResolve lhs.now rhs.now guard) (across (changing terms) (changing cells) (changing chars) (changing reasons) (changing keys)) (changing list) c (resolved result) }
 {
     if list.len() < LIST_LIMIT {
-        return StepResult::Refused(1);
+        return Err(Refusal::Sizes);
     }
-    let k = records::audit(terms, cells, chars, reasons, keys, c);
-    if k != 0 {
-        return StepResult::Refused(k);
-    }
+    records::audit(terms, cells, chars, reasons, keys, c)?;
     if !can_resolve(terms, c, lhs, rhs, guard) {
-        return StepResult::Refused(5);
+        return Err(Refusal::Argument);
     }
     let o = resolving::resolve_unchecked(
         terms, cells, chars, reasons, keys, c, lhs, rhs, guard, list,
     );
-    cut_unresolved_unchecked(terms, c.terms, o)
-}
-
-// After a refusal the index names no term that was made on the way.
-pub fn cut_unresolved_unchecked(terms: &mut [u32], n: usize, o: StepResult) -> StepResult
-    requires fact_1 { n ≤ term_limit }
-    requires fact_2 { term_words n ≤ length terms.old }
-    ensures { CutRefused unresolved terms.old terms.new n o result }
-{
-    match o {
-        StepResult::Refused(k) => {
-            cut_unchecked(terms, n);
-            StepResult::Refused(k)
-        }
-        _ => o,
-    }
+    cut_refused_unchecked(terms, c.terms, o)
 }

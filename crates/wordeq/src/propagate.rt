@@ -14,7 +14,7 @@ ghost use Rattle.sides.specs.Working.Sides.{Spelled};
 ghost use Rattle.sides.specs.Working.Stripping.{Readable, Pair};
 ghost use Rattle.wordeq.specs.Working.Propagates.{aliased, emptied, assigned, linked};
 
-use records::{Made, State, make, rules};
+use records::{Kind, Refusal, State, make, rules};
 use sides::{StepResult, letters, stripping};
 
 // The constant of a constant side, "" for none.
@@ -26,7 +26,7 @@ pub(crate) fn side_word_unchecked(
     keys: &[u32],
     c: State,
     side: &[u32],
-) -> Made
+) -> Result<(u32, State), Refusal>
     requires ready { Ready (lent terms.old cells.now chars.old reasons.now keys.now) c }
     requires side_len_bound { length side.now ≤ list_limit }
     requires side_value { fixed (store_of (lent terms.old cells.now chars.old reasons.now keys.now) c) side.now ≡ true }
@@ -40,49 +40,34 @@ fn is_alias(terms: &[u32], chars: &[u32], c: State, l: &[u32], r: &[u32]) -> boo
     requires { Spelled terms.now chars.now c }
     ensures { result ≡ aliased (read_in terms.now chars.now c) l.now r.now }
 {
-    if l.len() != 1 {
-        return false;
-    }
-    if r.len() != 1 {
-        return false;
-    }
-    if !letters::is_plain_unchecked(terms, chars, c, l[0]) {
-        return false;
-    }
-    letters::is_plain_unchecked(terms, chars, c, r[0])
+    l.len() == 1
+        && r.len() == 1
+        && letters::is_plain_unchecked(terms, chars, c, l[0])
+        && letters::is_plain_unchecked(terms, chars, c, r[0])
 }
 
 // Whether all atoms are variables.
 fn are_variables(terms: &[u32], c: State, l: &[u32]) -> bool
     ensures { result ≡ all (is_variable (termed terms.now c)) l.now }
 {
-    letters::first_of_kind_unchecked(terms, c, l, 2, false) == l.len()
+    l.iter()
+        .all(|&a| rules::is_a(terms, c.terms, a, Kind::Variable))
 }
 
 // An empty side against two or more variables.
 pub fn is_emptied_unchecked(terms: &[u32], c: State, l: &[u32], r: &[u32]) -> bool
     ensures { result ≡ emptied (termed terms.now c) l.now r.now }
 {
-    if l.len() != 0 {
-        return false;
-    }
-    if r.len() < 2 {
-        return false;
-    }
-    are_variables(terms, c, r)
+    l.is_empty() && r.len() >= 2 && are_variables(terms, c, r)
 }
 
 // A lone variable against constants.
 fn is_assigned(terms: &[u32], c: State, l: &[u32], r: &[u32]) -> bool
     ensures { result ≡ assigned (termed terms.now c) l.now r.now }
 {
-    if l.len() != 1 {
-        return false;
-    }
-    if rules::kind_of(terms, c.terms, l[0]) != 2 {
-        return false;
-    }
-    letters::is_fixed(terms, c, r)
+    l.len() == 1
+        && rules::is_a(terms, c.terms, l[0], Kind::Variable)
+        && letters::is_fixed(terms, c, r)
 }
 
 // The first variable that is not the same as the word is propagated to it.
@@ -91,13 +76,10 @@ fn link_first(terms: &[u32], chars: &[u32], c: State, side: &[u32], word: u32) -
     requires every { Every (λ v. Pair (read_in terms.now chars.now c) v word) side.now }
     ensures { result ≡ linked c word (first_of (λ v. not (same (read_in terms.now chars.now c) v word)) side.now) }
 {
-    let mut i: usize = 0;
-    while i < side.len() {
-        let v = side[i];
+    for &v in side {
         if !stripping::same_unchecked(terms, chars, c, v, word) {
             return StepResult::Propagate(c, v, word, true);
         }
-        i += 1;
     }
     StepResult::Done(c)
 }
@@ -111,17 +93,13 @@ fn empties_unchecked(
     keys: &[u32],
     c: State,
     side: &[u32],
-) -> StepResult
+) -> Result<StepResult, Refusal>
     requires ready { Ready (lent terms.old cells.now chars.old reasons.now keys.now) c }
     requires side_value { emptied (termed terms.old c) [] side.now ≡ true }
     ensures { Between (Tries (empties [] side.now)) (across (changing terms) cells (changing chars) reasons keys) c result }
 {
-    let word: [u32; 0] = [];
-    let empty = make::make_constant_unchecked(terms, cells, chars, reasons, keys, c, &word);
-    match empty {
-        Made::Term(t, d) => link_first(terms, chars, d, side, t),
-        Made::Refused(k) => StepResult::Refused(k),
-    }
+    let (t, d) = make::make_constant_unchecked(terms, cells, chars, reasons, keys, c, &[])?;
+    Ok(link_first(terms, chars, d, side, t))
 }
 
 // A lone variable against constants: it is propagated to their joined word.
@@ -134,17 +112,14 @@ fn assigns_unchecked(
     c: State,
     v: u32,
     side: &[u32],
-) -> StepResult
+) -> Result<StepResult, Refusal>
     requires ready { Ready (lent terms.old cells.now chars.old reasons.now keys.now) c }
     requires side_len_bound { length side.now ≤ list_limit }
     requires side_value { (is_variable (termed terms.old c) v && fixed (termed terms.old c) side.now) ≡ true }
     ensures { Between (Tries (assigns (v ∷ []) side.now)) (across (changing terms) cells (changing chars) reasons keys) c result }
 {
-    let word = side_word_unchecked(terms, cells, chars, reasons, keys, c, side);
-    match word {
-        Made::Term(t, d) => StepResult::Propagate(d, v, t, false),
-        Made::Refused(k) => StepResult::Refused(k),
-    }
+    let (t, d) = side_word_unchecked(terms, cells, chars, reasons, keys, c, side)?;
+    Ok(StepResult::Propagate(d, v, t, false))
 }
 
 // Step 4. Where "" is made and no variable is left to propagate, no later way applies: so each is tested on the store as it came.
@@ -157,25 +132,22 @@ pub(crate) fn propagate_unchecked(
     c: State,
     lhs: &[u32],
     rhs: &[u32],
-) -> StepResult
+) -> Result<StepResult, Refusal>
     requires ready { Ready (lent terms.old cells.now chars.old reasons.now keys.now) c }
     requires both_lists { BothLists (store_of (lent terms.old cells.now chars.old reasons.now keys.now) c) lhs.now rhs.now }
     ensures { let l = lhs.now in let r = rhs.now in Between (Tries (alias l r or_else empties l r or_else empties r l or_else assigns l r or_else assigns r l)) (across (changing terms) cells (changing chars) reasons keys) c result }
 {
     if is_alias(terms, chars, c, lhs, rhs) {
-        return StepResult::Propagate(c, lhs[0], rhs[0], false);
+        Ok(StepResult::Propagate(c, lhs[0], rhs[0], false))
+    } else if is_emptied_unchecked(terms, c, lhs, rhs) {
+        empties_unchecked(terms, cells, chars, reasons, keys, c, rhs)
+    } else if is_emptied_unchecked(terms, c, rhs, lhs) {
+        empties_unchecked(terms, cells, chars, reasons, keys, c, lhs)
+    } else if is_assigned(terms, c, lhs, rhs) {
+        assigns_unchecked(terms, cells, chars, reasons, keys, c, lhs[0], rhs)
+    } else if is_assigned(terms, c, rhs, lhs) {
+        assigns_unchecked(terms, cells, chars, reasons, keys, c, rhs[0], lhs)
+    } else {
+        Ok(StepResult::Done(c))
     }
-    if is_emptied_unchecked(terms, c, lhs, rhs) {
-        return empties_unchecked(terms, cells, chars, reasons, keys, c, rhs);
-    }
-    if is_emptied_unchecked(terms, c, rhs, lhs) {
-        return empties_unchecked(terms, cells, chars, reasons, keys, c, lhs);
-    }
-    if is_assigned(terms, c, lhs, rhs) {
-        return assigns_unchecked(terms, cells, chars, reasons, keys, c, lhs[0], rhs);
-    }
-    if is_assigned(terms, c, rhs, lhs) {
-        return assigns_unchecked(terms, cells, chars, reasons, keys, c, rhs[0], lhs);
-    }
-    StepResult::Done(c)
 }

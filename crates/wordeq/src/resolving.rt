@@ -16,23 +16,21 @@ ghost use Rattle.wordeq.specs.Working.Resolving.{soft, closing, flat_steps, ran}
 
 use crate::stepping;
 use normalize::flat;
-use records::{LIST_LIMIT, State};
-use sides::{StepResult, letters};
+use records::{Kind, LIST_LIMIT, Refusal, State, rules};
+use sides::StepResult;
 
 // Whether some atom is a concatenation.
 fn has_concat(terms: &[u32], c: State, l: &[u32]) -> bool
     ensures { result ≡ any (is_concat (termed terms.now c)) l.now }
 {
-    letters::first_of_kind_unchecked(terms, c, l, 3, true) < l.len()
+    l.iter()
+        .any(|&a| rules::is_a(terms, c.terms, a, Kind::Concatenation))
 }
 
 fn either_concat(terms: &[u32], c: State, lhs: &[u32], rhs: &[u32]) -> bool
     ensures { result ≡ any (is_concat (termed terms.now c)) (lhs.now ++ rhs.now) }
 {
-    if has_concat(terms, c, lhs) {
-        return true;
-    }
-    has_concat(terms, c, rhs)
+    has_concat(terms, c, lhs) || has_concat(terms, c, rhs)
 }
 
 // The atoms of each term of a list, from the start of `out`. Nothing is walked past the first atom that does not fit.
@@ -48,13 +46,11 @@ pub fn flatten_list_unchecked(
     ensures { Appended out.old out.new 0 (concat_map (atoms (bare terms.now c.terms cells.now c.cells)) l.now) result }
 {
     let mut n: usize = 0;
-    let mut i: usize = 0;
-    while i < l.len() {
-        n = flat::flatten_unchecked(terms, c.terms, cells, c.cells, l[i], out, n);
+    for &t in l {
+        n = flat::flatten_unchecked(terms, c.terms, cells, c.cells, t, out, n);
         if LIST_LIMIT < n {
             return n;
         }
-        i += 1;
     }
     n
 }
@@ -64,12 +60,8 @@ fn soften(o: StepResult) -> StepResult
     ensures { result ≡ soft o }
 {
     match o {
-        StepResult::Done(d) => StepResult::Done(d),
-        StepResult::Saturated(d) => StepResult::Saturated(d),
         StepResult::Conflict(d) => StepResult::Saturated(d),
-        StepResult::Propagate(d, v, w, f) => StepResult::Propagate(d, v, w, f),
-        StepResult::Split(d, n, g, j) => StepResult::Split(d, n, g, j),
-        StepResult::Refused(k) => StepResult::Refused(k),
+        _ => o,
     }
 }
 
@@ -85,7 +77,7 @@ fn flat_steps(
     rhs: &[u32],
     guard: i32,
     list: &mut [u32],
-) -> StepResult
+) -> Result<StepResult, Refusal>
     requires ready { Ready (lent terms.old cells.old chars.old reasons.old keys.old) c }
     requires both_lists { BothLists (store_of (lent terms.old cells.old chars.old reasons.old keys.old) c) lhs.now rhs.now }
     requires guard_value { is_guard guard ≡ true }
@@ -95,14 +87,14 @@ fn flat_steps(
     let mut left: [u32; 1024] = [0; 1024];
     let n = flatten_list_unchecked(terms, cells, c, lhs, &mut left);
     if LIST_LIMIT < n {
-        return StepResult::Refused(6);
+        return Err(Refusal::List);
     }
     let mut right: [u32; 1024] = [0; 1024];
     let k = flatten_list_unchecked(terms, cells, c, rhs, &mut right);
     if LIST_LIMIT < k {
-        return StepResult::Refused(6);
+        return Err(Refusal::List);
     }
-    soften(stepping::steps_unchecked(
+    let o = stepping::steps_unchecked(
         terms,
         cells,
         chars,
@@ -113,7 +105,8 @@ fn flat_steps(
         &right[..k],
         guard,
         list,
-    ))
+    )?;
+    Ok(soften(o))
 }
 
 // The steps, on flattened lists where some atom is a concatenation.
@@ -128,7 +121,7 @@ fn run<'a>(
     rhs: &'a [u32],
     guard: i32,
     list: &mut [u32],
-) -> StepResult
+) -> Result<StepResult, Refusal>
     requires ready { Ready (lent terms.old cells.old chars.old reasons.old keys.old) c }
     requires both_lists { BothLists (store_of (lent terms.old cells.old chars.old reasons.old keys.old) c) lhs.now rhs.now }
     requires guard_value { is_guard guard ≡ true }
@@ -136,9 +129,10 @@ fn run<'a>(
     ensures { Does (ran lhs.now rhs.now guard) (across (changing terms) (changing cells) (changing chars) (changing reasons) (changing keys)) c (resolved result into changing list) }
 {
     if either_concat(terms, c, lhs, rhs) {
-        return flat_steps(terms, cells, chars, reasons, keys, c, lhs, rhs, guard, list);
+        flat_steps(terms, cells, chars, reasons, keys, c, lhs, rhs, guard, list)
+    } else {
+        stepping::steps_unchecked(terms, cells, chars, reasons, keys, c, lhs, rhs, guard, list)
     }
-    stepping::steps_unchecked(terms, cells, chars, reasons, keys, c, lhs, rhs, guard, list)
 }
 
 // Conflict and Propagate end with the reasons added too; other answers return the incoming count.
@@ -148,10 +142,8 @@ fn close(n: usize, o: StepResult) -> StepResult
     match o {
         StepResult::Done(d) => StepResult::Done(d.with_reasons(n)),
         StepResult::Saturated(d) => StepResult::Saturated(d.with_reasons(n)),
-        StepResult::Conflict(d) => StepResult::Conflict(d),
-        StepResult::Propagate(d, v, w, f) => StepResult::Propagate(d, v, w, f),
         StepResult::Split(d, k, g, j) => StepResult::Split(d.with_reasons(n), k, g, j),
-        StepResult::Refused(k) => StepResult::Refused(k),
+        _ => o,
     }
 }
 
@@ -167,16 +159,13 @@ pub fn resolve_unchecked<'a>(
     rhs: &'a [u32],
     guard: i32,
     list: &mut [u32],
-) -> StepResult
+) -> Result<StepResult, Refusal>
     requires ready { Ready (lent terms.old cells.old chars.old reasons.old keys.old) c }
     requires both_lists { BothLists (store_of (lent terms.old cells.old chars.old reasons.old keys.old) c) lhs.now rhs.now }
     requires guard_value { is_guard guard ≡ true }
     requires list_limit_in_bounds { list_limit ≤ length list.old }
     ensures { Does (resolve lhs.now rhs.now guard) (across (changing terms) (changing cells) (changing chars) (changing reasons) (changing keys)) c (resolved result into changing list) }
 {
-    let n = c.reasons;
-    close(
-        n,
-        run(terms, cells, chars, reasons, keys, c, lhs, rhs, guard, list),
-    )
+    let o = run(terms, cells, chars, reasons, keys, c, lhs, rhs, guard, list)?;
+    Ok(close(c.reasons, o))
 }

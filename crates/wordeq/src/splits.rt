@@ -12,8 +12,7 @@ ghost use Rattle.sides.specs.Wordeq.{fresh_variable};
 ghost use Rattle.wordeq.specs.Working.Splits.{listed, prefix_atom, empty_atom, character_atom, lengths_atom, character_atoms, prefix_atoms, head_atoms};
 
 use held::taking;
-use normalize::Form;
-use records::{Made, State, build, make};
+use records::{Refusal, State, build, make};
 
 // The variable of the first characters of a name, which no variable has.
 fn make_named(
@@ -25,15 +24,14 @@ fn make_named(
     c: State,
     name: &[u32; 15],
     len: usize,
-) -> Made
+) -> Result<(u32, State), Refusal>
     requires ready { Ready (lent terms.old cells.now chars.old reasons.now keys.now) c }
     requires len_bound { len ≤ 15 }
-    requires c_value { variable_arguments (take len name.now) (store_of (lent terms.old cells.now chars.old reasons.now keys.now) c) ≡ true }
-    requires c_value_2 { lookup (named (take len name.now)) (store_of (lent terms.old cells.now chars.old reasons.now keys.now) c) ≡ none }
+    requires is_name { variable_arguments (take len name.now) (store_of (lent terms.old cells.now chars.old reasons.now keys.now) c) ≡ true }
+    requires is_new { lookup (named (take len name.now)) (store_of (lent terms.old cells.now chars.old reasons.now keys.now) c) ≡ none }
     ensures { Does (make_variable (take len name.now)) (across (changing terms) cells (changing chars) reasons keys) c (made result) }
 {
-    let all: &[u32] = name;
-    make::make_new_variable_unchecked(terms, cells, chars, reasons, keys, c, &all[..len])
+    make::make_new_variable_unchecked(terms, cells, chars, reasons, keys, c, &name[..len])
 }
 
 // A variable of the next free name.
@@ -44,15 +42,11 @@ pub(crate) fn fresh_str_unchecked(
     reasons: &[u32],
     keys: &[u32],
     c: State,
-) -> Made
+) -> Result<(u32, State), Refusal>
     requires { Ready (lent terms.old cells.now chars.old reasons.now keys.now) c }
     ensures { Does fresh_variable (across (changing terms) cells (changing chars) reasons keys) c (made result) }
 {
-    let named = taking::next_name_unchecked(terms, cells, chars, reasons, keys, c);
-    if named.code != 0 {
-        return Made::Refused(named.code);
-    }
-    let name = named.name;
+    let named = taking::next_name_unchecked(terms, cells, chars, reasons, keys, c)?;
     make_named(
         terms,
         cells,
@@ -60,7 +54,7 @@ pub(crate) fn fresh_str_unchecked(
         reasons,
         keys,
         named.state,
-        &name,
+        &named.name,
         named.len,
     )
 }
@@ -75,28 +69,23 @@ pub(crate) fn prefix_unchecked(
     c: State,
     v: u32,
     h: u32,
-) -> Made
+) -> Result<(u32, State), Refusal>
     requires ready { Ready (lent terms.old cells.old chars.old reasons.now keys.now) c }
     requires v_value { is_string (store_of (lent terms.old cells.old chars.old reasons.now keys.now) c) v ≡ true }
     requires h_value { is_string (store_of (lent terms.old cells.old chars.old reasons.now keys.now) c) h ≡ true }
     ensures { Does (prefix_atom v h) (across (changing terms) (changing cells) (changing chars) reasons keys) c (made result) }
 {
-    let fresh = fresh_str_unchecked(terms, cells, chars, reasons, keys, c);
-    match fresh {
-        Made::Term(z, d) => {
-            let pair: [u32; 2] = [h, z];
-            let whole = build::make_concatenation_unchecked(
-                terms, cells, chars, reasons, keys, d, &pair,
-            );
-            match whole {
-                Made::Term(t, e) => build::make_equation_unchecked(
-                    terms, cells, chars, reasons, keys, e, v, t,
-                ),
-                Made::Refused(k) => Made::Refused(k),
-            }
-        }
-        Made::Refused(k) => Made::Refused(k),
-    }
+    let (z, d) = fresh_str_unchecked(terms, cells, chars, reasons, keys, c)?;
+    let (t, e) = build::make_concatenation_unchecked(
+        terms,
+        cells,
+        chars,
+        reasons,
+        keys,
+        d,
+        &[h, z],
+    )?;
+    build::make_equation_unchecked(terms, cells, chars, reasons, keys, e, v, t)
 }
 
 // v = "".
@@ -108,19 +97,13 @@ pub(crate) fn empty_unchecked(
     keys: &[u32],
     c: State,
     v: u32,
-) -> Made
+) -> Result<(u32, State), Refusal>
     requires ready { Ready (lent terms.old cells.now chars.old reasons.now keys.now) c }
     requires v_value { is_string (store_of (lent terms.old cells.now chars.old reasons.now keys.now) c) v ≡ true }
     ensures { Does (empty_atom v) (across (changing terms) cells (changing chars) reasons keys) c (made result) }
 {
-    let word: [u32; 0] = [];
-    let empty = make::make_constant_unchecked(terms, cells, chars, reasons, keys, c, &word);
-    match empty {
-        Made::Term(t, d) => build::make_equation_unchecked(
-            terms, cells, chars, reasons, keys, d, v, t,
-        ),
-        Made::Refused(k) => Made::Refused(k),
-    }
+    let (t, d) = make::make_constant_unchecked(terms, cells, chars, reasons, keys, c, &[])?;
+    build::make_equation_unchecked(terms, cells, chars, reasons, keys, d, v, t)
 }
 
 // v = ch ++ z for a fresh variable z.
@@ -133,18 +116,14 @@ pub(crate) fn character_unchecked(
     c: State,
     v: u32,
     ch: u32,
-) -> Made
+) -> Result<(u32, State), Refusal>
     requires ready { Ready (lent terms.old cells.old chars.old reasons.now keys.now) c }
     requires v_value { is_string (store_of (lent terms.old cells.old chars.old reasons.now keys.now) c) v ≡ true }
     requires ch_value { is_char ch ≡ true }
     ensures { Does (character_atom v ch) (across (changing terms) (changing cells) (changing chars) reasons keys) c (made result) }
 {
-    let word: [u32; 1] = [ch];
-    let head = make::make_constant_unchecked(terms, cells, chars, reasons, keys, c, &word);
-    match head {
-        Made::Term(h, d) => prefix_unchecked(terms, cells, chars, reasons, keys, d, v, h),
-        Made::Refused(k) => Made::Refused(k),
-    }
+    let (h, d) = make::make_constant_unchecked(terms, cells, chars, reasons, keys, c, &[ch])?;
+    prefix_unchecked(terms, cells, chars, reasons, keys, d, v, h)
 }
 
 // Equal lengths of a and b.
@@ -157,25 +136,15 @@ pub(crate) fn lengths_unchecked(
     c: State,
     a: u32,
     b: u32,
-) -> Made
+) -> Result<(u32, State), Refusal>
     requires ready { Ready (lent terms.old cells.now chars.now reasons.now keys.now) c }
     requires a_value { is_string (store_of (lent terms.old cells.now chars.now reasons.now keys.now) c) a ≡ true }
     requires b_value { is_string (store_of (lent terms.old cells.now chars.now reasons.now keys.now) c) b ≡ true }
     ensures { Does (lengths_atom a b) (across (changing terms) cells chars reasons keys) c (made result) }
 {
-    let left = build::make_length_unchecked(terms, cells, chars, reasons, keys, c, a);
-    match left {
-        Made::Term(la, d) => {
-            let right = build::make_length_unchecked(terms, cells, chars, reasons, keys, d, b);
-            match right {
-                Made::Term(lb, e) => build::make_equation_unchecked(
-                    terms, cells, chars, reasons, keys, e, la, lb,
-                ),
-                Made::Refused(k) => Made::Refused(k),
-            }
-        }
-        Made::Refused(k) => Made::Refused(k),
-    }
+    let (la, d) = build::make_length_unchecked(terms, cells, chars, reasons, keys, c, a)?;
+    let (lb, e) = build::make_length_unchecked(terms, cells, chars, reasons, keys, d, b)?;
+    build::make_equation_unchecked(terms, cells, chars, reasons, keys, e, la, lb)
 }
 
 // The atoms v = "" and v = ch ++ z.
@@ -189,28 +158,18 @@ pub(crate) fn split_character_unchecked(
     v: u32,
     ch: u32,
     list: &mut [u32],
-) -> Form
+) -> Result<(usize, State), Refusal>
     requires ready { Ready (lent terms.old cells.old chars.old reasons.now keys.now) c }
     requires v_value { is_string (store_of (lent terms.old cells.old chars.old reasons.now keys.now) c) v ≡ true }
     requires ch_value { is_char ch ≡ true }
     requires in_bounds { 2 ≤ length list.old }
     ensures { Does (character_atoms v ch) (across (changing terms) (changing cells) (changing chars) reasons keys) c (listed result into changing list) }
 {
-    let first = empty_unchecked(terms, cells, chars, reasons, keys, c, v);
-    match first {
-        Made::Term(p, d) => {
-            let second = character_unchecked(terms, cells, chars, reasons, keys, d, v, ch);
-            match second {
-                Made::Term(q, e) => {
-                    list[0] = p;
-                    list[1] = q;
-                    Form::List(2, e)
-                }
-                Made::Refused(k) => Form::Refused(k),
-            }
-        }
-        Made::Refused(k) => Form::Refused(k),
-    }
+    let (p, d) = empty_unchecked(terms, cells, chars, reasons, keys, c, v)?;
+    let (q, e) = character_unchecked(terms, cells, chars, reasons, keys, d, v, ch)?;
+    list[0] = p;
+    list[1] = q;
+    Ok((2, e))
 }
 
 // The atoms a = b ++ z and b = a ++ z, from place 1 on.
@@ -225,29 +184,19 @@ fn put_prefixes(
     b: u32,
     p: u32,
     list: &mut [u32],
-) -> Form
+) -> Result<(usize, State), Refusal>
     requires ready { Ready (lent terms.old cells.old chars.old reasons.now keys.now) c }
     requires a_value { is_string (store_of (lent terms.old cells.old chars.old reasons.now keys.now) c) a ≡ true }
     requires b_value { is_string (store_of (lent terms.old cells.old chars.old reasons.now keys.now) c) b ≡ true }
     requires in_bounds { 3 ≤ length list.old }
     ensures { Does (prefix_atoms p a b) (across (changing terms) (changing cells) (changing chars) reasons keys) c (listed result into changing list) }
 {
-    let first = prefix_unchecked(terms, cells, chars, reasons, keys, c, a, b);
-    match first {
-        Made::Term(q, d) => {
-            let second = prefix_unchecked(terms, cells, chars, reasons, keys, d, b, a);
-            match second {
-                Made::Term(u, e) => {
-                    list[0] = p;
-                    list[1] = q;
-                    list[2] = u;
-                    Form::List(3, e)
-                }
-                Made::Refused(k) => Form::Refused(k),
-            }
-        }
-        Made::Refused(k) => Form::Refused(k),
-    }
+    let (q, d) = prefix_unchecked(terms, cells, chars, reasons, keys, c, a, b)?;
+    let (u, e) = prefix_unchecked(terms, cells, chars, reasons, keys, d, b, a)?;
+    list[0] = p;
+    list[1] = q;
+    list[2] = u;
+    Ok((3, e))
 }
 
 // The atoms of equal lengths, a = b ++ z and b = a ++ z.
@@ -261,16 +210,13 @@ pub(crate) fn split_heads_unchecked(
     a: u32,
     b: u32,
     list: &mut [u32],
-) -> Form
+) -> Result<(usize, State), Refusal>
     requires ready { Ready (lent terms.old cells.old chars.old reasons.now keys.now) c }
     requires a_value { is_string (store_of (lent terms.old cells.old chars.old reasons.now keys.now) c) a ≡ true }
     requires b_value { is_string (store_of (lent terms.old cells.old chars.old reasons.now keys.now) c) b ≡ true }
     requires in_bounds { 3 ≤ length list.old }
     ensures { Does (head_atoms a b) (across (changing terms) (changing cells) (changing chars) reasons keys) c (listed result into changing list) }
 {
-    let lengths = lengths_unchecked(terms, cells, chars, reasons, keys, c, a, b);
-    match lengths {
-        Made::Term(p, d) => put_prefixes(terms, cells, chars, reasons, keys, d, a, b, p, list),
-        Made::Refused(k) => Form::Refused(k),
-    }
+    let (p, d) = lengths_unchecked(terms, cells, chars, reasons, keys, c, a, b)?;
+    put_prefixes(terms, cells, chars, reasons, keys, d, a, b, p, list)
 }

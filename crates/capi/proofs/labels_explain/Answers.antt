@@ -4,7 +4,7 @@ use Rattle.capi.proofs.labels_explain.Goals as goal
 
 pub returns-then-state-lt-STATE_ROOM : goal.returns-then-state-lt-STATE_ROOM
 returns-then-state-lt-STATE_ROOM c =
-    explain-short _ _ _ _ c.if-state-lt-STATE_ROOM.true
+    explain-short _ _ _ _ c.if-state-lt-STATE_ROOM.true c.from.ensures
 
 pub tell_counts-requires : goal.tell_counts-requires
 tell_counts-requires c =

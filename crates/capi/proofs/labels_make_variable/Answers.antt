@@ -1,18 +1,17 @@
 use mathlib.Core.Path.{sym, ◌∙◌}
-use borrow.Author.Tests.{not-true, not-false}
 use Rattle.capi.proofs.Exports.{untold, tellable, exported}
 use Rattle.capi.proofs.Tellings.{variable-tells}
 use Rattle.capi.proofs.labels_make_variable.Goals as goal
 
 pub returns-then-not-is_roomy : goal.returns-then-not-is_roomy
 returns-then-not-is_roomy c =
-    untold _ _ _ _ _ _ (sym c.is_roomy.ensures ∙ not-true _ c.if-not-is_roomy.true-raw)
+    untold _ _ _ _ _ _ (sym c.is_roomy.ensures ∙ c.if-not-is_roomy.true) c.from.ensures
 
 pub tell-requires : goal.tell-requires
 tell-requires c =
-    (sym c.is_roomy.ensures ∙ not-false _ c.if-not-is_roomy.false-raw, tellable (variable-tells c.args.name.now) c.make_variable-made.ensures)
+    (sym c.is_roomy.ensures ∙ c.if-not-is_roomy.false, tellable (variable-tells c.args.name.now) c.make_variable-made.ensures)
 
 pub returns : goal.returns
 returns c =
-    exported (variable-tells c.args.name.now) c.make_variable-made.ensures (sym c.is_roomy.ensures ∙ not-false _ c.if-not-is_roomy.false-raw)
+    exported (variable-tells c.args.name.now) c.make_variable-made.ensures (sym c.is_roomy.ensures ∙ c.if-not-is_roomy.false)
     c.state_of-c.ensures c.tell.ensures

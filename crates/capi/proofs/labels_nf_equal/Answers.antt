@@ -1,23 +1,22 @@
+use Rattle.capi.proofs.Words.{flag_from}
 use Rattle.capi.proofs.EqualExports.{equal-short, equal-told, equal_untold}
-use borrow.Author.Tests.{not-true, not-false}
 use mathlib.Core.Path.{sym, ◌∙◌}
 use native.Mathlib.Omega.{arith}
 use Rattle.capi.proofs.labels_nf_equal.Goals as goal
 
 pub returns-then-not-is_roomy : goal.returns-then-not-is_roomy
 returns-then-not-is_roomy c =
-    equal-short _ _ _ _ _ (sym c.is_roomy.ensures ∙ not-true _ c.if-not-is_roomy.true-raw)
+    equal-short _ _ _ _ _ (sym c.is_roomy.ensures ∙ c.if-not-is_roomy.true) c.from.ensures
 
 pub tell_still-requires : goal.tell_still-requires
 tell_still-requires c =
-    (sym c.is_roomy.ensures ∙ not-false _ c.if-not-is_roomy.false-raw, omega arith)
+    (sym c.is_roomy.ensures ∙ c.if-not-is_roomy.false, omega arith)
 
-pub returns-in-Is : goal.returns-in-Is
-returns-in-Is c =
-    equal-told _ _ _ _ _ c.nf_equal-compared.ensures _ _ (sym c.is_roomy.ensures ∙ not-false _ c.if-not-is_roomy.false-raw) c.state_of-c.ensures c.in-Is.is
-    c.flag_of.ensures c.tell_still.ensures.is
+pub returns-in-Ok : goal.returns-in-Ok
+returns-in-Ok c =
+    equal-told _ _ _ _ _ c.nf_equal.ensures _ _ (sym c.is_roomy.ensures ∙ c.if-not-is_roomy.false) c.state_of-c.ensures c.in-Ok.is
+    (c.from-in-Ok.ensures ∙ flag_from _) c.tell_still.ensures.is
 
-pub returns-in-Refused : goal.returns-in-Refused
-returns-in-Refused c =
-    equal_untold _ _ _ _ _ c.nf_equal-compared.ensures _ _ (sym c.is_roomy.ensures ∙ not-false _ c.if-not-is_roomy.false-raw) c.state_of-c.ensures _
-    c.in-Refused.is
+pub returns-in-Err : goal.returns-in-Err
+returns-in-Err c =
+    equal_untold _ _ _ _ _ c.nf_equal.ensures _ _ (sym c.is_roomy.ensures ∙ c.if-not-is_roomy.false) c.state_of-c.ensures c.in-Err.is c.from-in-Err.ensures

@@ -1,21 +1,13 @@
 -- Definitions that only private contracts cite: how an answer is put into words.
-use Rattle.std.specs.Prelude.{◌≡◌, List, [], ◌∷◌, ◌++◌, ℕ, ◌<◌, length, drop, ℤ}
+use Rattle.std.specs.Prelude.{◌≡◌, List, [], ◌∷◌, ◌++◌, ℕ, ◌<◌, length, drop, ℤ, Result, Ok, Err}
 use Rattle.std.specs.Int.{w32}
 use Rattle.std.proofs.Common.{of_z, SFits}
 use Rattle.records.specs.declared.State.{State}
-use Rattle.records.specs.declared.Made.{Made}
-use Rattle.records.specs.declared.Made.TheVariants.{Term, Refused}
-use Rattle.records.specs.declared.Added.{Added}
-use Rattle.records.specs.declared.Added.TheVariants as adding
+use Rattle.records.specs.declared.refusal.Refusal.{Refusal}
+use Rattle.records.specs.Refusal.{number}
 use Rattle.records.specs.View.{Slice}
-use Rattle.normalize.specs.declared.Form.{Form}
-use Rattle.normalize.specs.declared.Form.TheVariants as form
-use Rattle.normalize.specs.declared.DeepForm.{DeepForm}
-use Rattle.normalize.specs.declared.DeepForm.TheVariants as deep
 use Rattle.sides.specs.declared.StepResult.{StepResult}
 use Rattle.sides.specs.declared.StepResult.TheVariants as step
-use Rattle.equation.specs.declared.Outcome.{Outcome}
-use Rattle.equation.specs.declared.Outcome.TheVariants as outcome
 use Rattle.capi.specs.Equations.{flag}
 
 -- words put first in a slice
@@ -37,21 +29,26 @@ pub record Narrow (c : State) : Type 0 where
 -- What an answer tells: counts for the state and the answer's first words, or the refusal.
 pub data Telling (S : Type 0) : Type 0 where
   tells : S → List ℕ → Telling S
-  refuses : ℕ → Telling S
+  refuses : Refusal → Telling S
 
 module _ {S : Type 0} where
   abbrev pub number_of : Telling S → ℕ
   number_of (tells c v) = 0
-  number_of (refuses k) = k
+  number_of (refuses e) = number e
+
+  -- what is answered is told, and a refusal is handed on
+  abbrev pub or_refuses : {R : Type 0} → (R → Telling S) → Result R Refusal → Telling S
+  or_refuses f (Ok x) = f x
+  or_refuses f (Err e) = refuses e
 
   -- `put` writes the counts
   abbrev pub state_with : (S → List ℕ → List ℕ) → Telling S → List ℕ → List ℕ
   state_with put (tells c v) w = put c w
-  state_with put (refuses k) w = w
+  state_with put (refuses e) w = w
 
   abbrev pub answer_with : Telling S → List ℕ → List ℕ
   answer_with (tells c v) a = put_first v a
-  answer_with (refuses k) a = a
+  answer_with (refuses e) a = a
 
   pub record ToldWords (put : S → List ℕ → List ℕ) (w w' a a' : List ℕ) (r : Telling S) (k : ℕ) : Type 0 where
     pub code : k ≡ number_of r
@@ -66,27 +63,11 @@ module _ {S : Type 0} where
   ToldIn put f state answer r k = ToldBy put f state.entry.now state.exit.now answer.entry.now answer.exit.now r k
 
 -- a making call's term, the counts after explain
-abbrev pub made_telling : Made → Telling State
-made_telling (Term t c) = tells c (t ∷ [])
-made_telling (Refused k) = refuses k
+abbrev pub made_telling : Result (ℕ × State) Refusal → Telling State
+made_telling r = or_refuses (λ x. tells x.1 (x.0 ∷ [])) r
 
-abbrev pub added_telling : Added → Telling State
-added_telling (adding.Counts c) = tells c []
-added_telling (adding.Refused k) = refuses k
-
--- counts that a word holds, with the count of a list
-pub record NarrowList (n : ℕ) (c : State) : Type 0 where
-  pub counts : Narrow c
-  pub list : n < 4294967296
-
-abbrev pub form_telling : Form → Telling State
-form_telling (form.List n c) = tells c (1 ∷ n ∷ [])
-form_telling (form.Refused k) = refuses k
-
-abbrev pub deep_telling : DeepForm → Telling State
-deep_telling (deep.List n c) = tells c (1 ∷ n ∷ [])
-deep_telling (deep.None c) = tells c (0 ∷ 0 ∷ [])
-deep_telling (deep.Refused k) = refuses k
+abbrev pub added_telling : Result State Refusal → Telling State
+added_telling r = or_refuses (λ c. tells c []) r
 
 -- the count of a Split's atoms that a word holds, and its guard within 32 bits
 pub record NarrowSplit (n : ℕ) (g : ℤ) : Type 0 where
@@ -99,18 +80,8 @@ answer_telling (step.Saturated c) = tells c (1 ∷ [])
 answer_telling (step.Conflict c) = tells c (2 ∷ [])
 answer_telling (step.Propagate c v w f) = tells c (3 ∷ v ∷ w ∷ flag f ∷ [])
 answer_telling (step.Split c n g k) = tells c (4 ∷ n ∷ of_z w32 g ∷ k ∷ [])
-answer_telling (step.Refused k) = refuses k
 
 -- counts and a Split that words hold
 pub record NarrowAnswer (r : StepResult) : Type 0 where
   pub counts : (c : State) (v : List ℕ) → answer_telling r ≡ tells c v → Narrow c
   pub split : (c : State) (n : ℕ) (g : ℤ) (k : ℕ) → r ≡ step.Split c n g k → NarrowSplit n g
-
--- the same of the step over one equation
-abbrev pub outcome_telling : Outcome → Telling State
-outcome_telling (outcome.Answered r) = answer_telling r
-outcome_telling (outcome.Unexpanded c) = tells c (5 ∷ [])
-
-abbrev pub NarrowOutcome : Outcome → Type 0
-NarrowOutcome (outcome.Answered r) = NarrowAnswer r
-NarrowOutcome (outcome.Unexpanded c) = Narrow c

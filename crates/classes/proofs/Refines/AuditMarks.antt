@@ -1,11 +1,10 @@
 -- Each answer of the audit of store and marks.
 use Rattle.std.specs.Prelude.{if◌then◌else◌}
 use mathlib.Core.Path.{◌≡◌, refl, sym, ap, ◌∙◌}
-use mathlib.Core.Bool.{Bool, true, false, not, ◌&&◌, false≢true}
+use mathlib.Core.Bool.{Bool, true, false, ◌&&◌, false≢true}
 use mathlib.Core.List.{List}
 use Prim.Native.Nat.{ℕ}
 use native.Mathlib.Omega.{arith}
-use borrow.Author.Tests.{not-true, not-false}
 use Rattle.records.specs.declared.State.{State}
 use Rattle.records.specs.Store.{within}
 use Rattle.records.specs.View.{Lent, store_of, sizes, chained}
@@ -82,13 +81,13 @@ tabled-of m c s a = record { few = s.term_limited; room = s.term_room; classes =
 -- THE ANSWERS
 
 module _ (m : Lent) (l : List ℕ) (c : State) (d : Standing) (b : Bool) (q : b ≡ trail_sizes l d) where
-  pub audit-few : not b ≡ true → 1 ≡ audit_marks m l c d
+  pub audit-few : b ≡ false → 1 ≡ audit_marks m l c d
   unfolding audit_marks
-  audit-few z = sym (rw (right-false (sizes m c) (trail_sizes l d) (sym q ∙ not-true b z)))
+  audit-few z = sym (rw (right-false (sizes m c) (trail_sizes l d) (sym q ∙ z)))
 
-  module _ (z : not b ≡ false) (k : ℕ) (e : k ≡ audit m c) (w : Bool) (y : w ≡ within 3 k) where
+  module _ (z : b ≡ true) (k : ℕ) (e : k ≡ audit m c) (w : Bool) (y : w ≡ within 3 k) where
     fits : trail_sizes l d ≡ true
-    fits = sym q ∙ not-false b z
+    fits = sym q ∙ z
 
     pub trail-fits : TrailSized l d
     trail-fits = sized-trail l d fits
@@ -123,10 +122,10 @@ module _ (m : Lent) (l : List ℕ) (c : State) (d : Standing) (b : Bool) (q : b 
         marks_are : marks_rule (store_of m c) (trail_of l d) ≡ g
         marks_are = rule_alone m c (trail_of l d) ∙ sym f
 
-        pub audit_marks_lem : not g ≡ true → 3 ≡ audit_marks m l c d
+        pub audit_marks_lem : g ≡ false → 3 ≡ audit_marks m l c d
         unfolding audit audit_store audit_index audit_marks audit_trail
-        audit_marks_lem n = marks-next (sizes m c) (trail_sizes l d) (records_rule (store_of m c)) (classes_rule (store_of m c)) (marks_rule (store_of m c) (trail_of l d)) (congruences_rule (store_of m c)) (index_rule m.terms (store_of m c)) fits (found ∙ h) (marks_are ∙ not-true g n)
+        audit_marks_lem n = marks-next (sizes m c) (trail_sizes l d) (records_rule (store_of m c)) (classes_rule (store_of m c)) (marks_rule (store_of m c) (trail_of l d)) (congruences_rule (store_of m c)) (index_rule m.terms (store_of m c)) fits (found ∙ h) (marks_are ∙ n)
 
-        pub audit-last : not g ≡ false → k ≡ audit_marks m l c d
+        pub audit-last : g ≡ true → k ≡ audit_marks m l c d
         unfolding audit audit_store audit_index audit_marks audit_trail
-        audit-last n = e ∙ table-last (sizes m c) (trail_sizes l d) (records_rule (store_of m c)) (classes_rule (store_of m c)) (marks_rule (store_of m c) (trail_of l d)) (congruences_rule (store_of m c)) (index_rule m.terms (store_of m c)) fits (found ∙ h) (marks_are ∙ not-false g n)
+        audit-last n = e ∙ table-last (sizes m c) (trail_sizes l d) (records_rule (store_of m c)) (classes_rule (store_of m c)) (marks_rule (store_of m c) (trail_of l d)) (congruences_rule (store_of m c)) (index_rule m.terms (store_of m c)) fits (found ∙ h) (marks_are ∙ n)

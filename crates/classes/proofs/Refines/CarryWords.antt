@@ -1,5 +1,5 @@
 -- The loop over words: a record written, and each way through the loop.
-use mathlib.Core.Path.{◌≡◌, refl, sym, ap, subst, ◌∙◌}
+use mathlib.Core.Path.{◌≡◌, sym, ap, subst, ◌∙◌}
 use mathlib.Core.Bool.{true}
 use mathlib.Core.List.{List}
 use Prim.Native.Nat.{ℕ, suc, ◌+◌, ◌-◌, ◌<◌, ◌≤◌}
@@ -11,10 +11,10 @@ use Rattle.records.specs.Make.{with_class}
 use Rattle.records.specs.Working.Audited.{Closed}
 use Rattle.records.specs.Working.Puts.{TermSet}
 use Rattle.records.proofs.Lists.{clash, within-high}
-use Rattle.records.proofs.IndexStores.{left-none, left-then}
+use Rattle.records.proofs.IndexStores.{left-then}
 use Rattle.records.proofs.Climbs.{view_term, view_count}
 use Rattle.classes.specs.Joins.{Edge, edge, turned, bearing, put_edge, put_class}
-use Rattle.classes.specs.Working.Carries.{carry_by, TermsBecome, Carriable}
+use Rattle.classes.specs.Working.Carries.{carry_by, TermsBecome}
 use Rattle.classes.proofs.MovedClimbs.{closed-put}
 use Rattle.classes.proofs.Tables.{edge_here, edge-away}
 use Rattle.classes.proofs.Refines.Carrying.{carry_root, carry_turn}
@@ -47,16 +47,6 @@ pub record Carrying (l₀ l : List ℕ) (n x : ℕ) (e : Edge) (at below k v m i
   pub closed : Closed (forest_up (terms_view l n)) n
   pub until : TermsBecome l₀ l n (terms_view l n)
   pub left : carry_by (suc n - i) (terms_view l n) at (edge below k v m) ≡ carry_by (suc n) (terms_view l₀ n) x e
-
-pub carrying_begin : (l : List ℕ) (n x p k v m : ℕ) → Carriable l n x p → Carrying l l n x (edge p k v m) x p k v m 0
-carrying_begin l n x p k v m c = record {
-  counted = omega arith;
-  here = c.here;
-  over = c.over;
-  closed = c.closed;
-  until = record { long = refl; away = λ t h. refl; is = refl; index = left-none };
-  left = (let e : suc n - 0 ≡ suc n = omega arith in rw e);
-}
 
 module _ {l₀ l : List ℕ} {n x : ℕ} {e : Edge} {at below k v m i : ℕ} (c : Carrying l₀ l n x e at below k v m i) where
   pub carrying_room : term_words n ≤ length l₀ → term_words at ≤ length l

@@ -1,19 +1,18 @@
 -- Joining and undoing over words: what each call asks, and what the last one leaves.
 use mathlib.Core.Path.{◌≡◌, refl, sym, ap, subst, ◌∙◌}
-use mathlib.Core.Bool.{Bool, true, false, not}
+use mathlib.Core.Bool.{Bool, true, false, not, ◌&&◌}
 use mathlib.Core.List.{List}
 use mathlib.Core.Option.{Option, none}
 use Prim.Native.Nat.{ℕ, suc, ◌≤◌}
 use native.Mathlib.Omega.{arith}
 use lib.ListN.{length}
 use lib.Dec.{eqb}
-use borrow.Author.Tests.{eq-eqb, ne_eqb, not-true, not-false}
 use Rattle.records.specs.Store.{Term, within, climb, class_up, forest_up, root_in}
 use Rattle.records.specs.View.{term_at, terms_view, term_words}
 use Rattle.records.specs.Make.{with_class}
 use Rattle.records.specs.Working.Audited.{Closed}
 use Rattle.records.specs.Working.Puts.{TermSet}
-use Rattle.records.proofs.Lists.{within-high, failed, passed, five_1, five_2, five_3, five_4, five-last}
+use Rattle.records.proofs.Lists.{within-high, both_left, both_right, and-stop, and-next}
 use Rattle.records.proofs.IndexStores.{left-none}
 use Rattle.records.proofs.Climbs.{climb-within, view_count, view_class, view_forest}
 use Rattle.classes.specs.Joins.{Trace, cut_in, edge, no_edge, bearing, put_edge, put_class, reroot_in, link_in, join_in, trace, is_trace, undo_in}
@@ -112,62 +111,53 @@ module _ (l : List ℕ) (n child old under : ℕ) where
   abbrev x : Trace
   x = trace child old under
 
-  abbrev first : Bool
-  first = within (length ts) child
-
-  abbrev second : Bool
-  second = within (length ts) old
-
-  abbrev third : Bool
-  third = within (length ts) under
-
   abbrev fourth : Bool
   fourth = not (eqb (forest_up ts child) child)
 
   abbrev fifth : Bool
   fifth = not (eqb (class_up ts under) under)
 
-  counted_in : (t : ℕ) (b : Bool) → b ≡ within n t → b ≡ within (length ts) t
-  counted_in t b e = e ∙ ap (λ (m : ℕ). within m t) (sym (view_count l n))
+  -- three terms, and an edge on the child: all of the test but the last
+  abbrev three_terms : Bool
+  three_terms = within n child && within n old && within n under
 
-  module _ (b : Bool) where
-    pub no_child : b ≡ within n child → not b ≡ true → false ≡ is_trace ts x
-    unfolding is_trace
-    no_child e h = five_1 first second third fourth fifth (failed first b (counted_in child b e) h)
+  abbrev pub edged : Bool
+  edged = three_terms && fourth
 
-    pub no_root : b ≡ within n old → not b ≡ true → false ≡ is_trace ts x
-    unfolding is_trace
-    no_root e h = five_2 first second third fourth fifth (failed second b (counted_in old b e) h)
+  the-test : edged && fifth ≡ is_trace ts x
+  unfolding is_trace
+  the-test = ap (λ (m : ℕ). within m child && within m old && within m under && fourth && fifth) (sym (view_count l n))
 
-    pub no_class : b ≡ within n under → not b ≡ true → false ≡ is_trace ts x
-    unfolding is_trace
-    no_class e h = five_3 first second third fourth fifth (failed third b (counted_in under b e) h)
+  module _ (v : Bool) (e : v ≡ three_terms) where
+    pub trace-uncounted : v ≡ false → v ≡ edged
+    trace-uncounted h = h ∙ and-stop three_terms fourth (sym e ∙ h)
 
-  module _ (b₁ : Bool) (e₁ : b₁ ≡ within n child) (h₁ : not b₁ ≡ false) (y : ℕ) (f : y ≡ (term_at l child).forest_parent) where
-    up : y ≡ forest_up ts child
-    up = view_forest l n child y (passed (within n child) b₁ e₁ h₁) f
+    pub trace-edge : v ≡ true → (y : ℕ) → y ≡ (term_at l child).forest_parent → not (eqb y child) ≡ edged
+    trace-edge h y f =
+        let c = sym e ∙ h in
+        let w = both_left (within n child) _ (both_left (within n child && within n old) _ c) in
+        and-next three_terms fourth _ c (ap (λ (z : ℕ). not (eqb z child)) (view_forest l n child y w f))
 
-    pub no_edge_lem : y ≡ child → false ≡ is_trace ts x
-    unfolding is_trace
-    no_edge_lem z = five_4 first second third fourth fifth (ap not (eq-eqb _ _ (sym up ∙ z)))
+    pub trace-not : (w : Bool) → w ≡ edged → w ≡ false → w ≡ is_trace ts x
+    trace-not w q h = h ∙ and-stop edged fifth (sym q ∙ h) ∙ the-test
 
-    pub trace-last : (y ≡ child → ⊥) → (b₂ b₃ : Bool) → b₂ ≡ within n old → not b₂ ≡ false → b₃ ≡ within n under → not b₃ ≡ false → (z : ℕ) → z ≡ (term_at l under).class_parent → not (eqb z under) ≡ is_trace ts x
-    unfolding is_trace
-    trace-last d b₂ b₃ e₂ h₂ e₃ h₃ z g =
-        five-last first second third fourth fifth (not (eqb z under)) (passed first b₁ (counted_in child b₁ e₁) h₁) (passed second b₂ (counted_in old b₂ e₂) h₂) (passed third b₃ (counted_in under b₃ e₃) h₃)
-        (ap not (ne_eqb _ _ (λ q. d (up ∙ q)))) (ap (λ (c : ℕ). not (eqb c under)) (view_class l n under z (passed (within n under) b₃ e₃ h₃) g))
+    pub trace-last : (w : Bool) → w ≡ edged → w ≡ true → (z : ℕ) → z ≡ (term_at l under).class_parent → not (eqb z under) ≡ is_trace ts x
+    trace-last w q h z g =
+        let t = sym q ∙ h in
+        let u = both_right (within n child && within n old) _ (both_left three_terms fourth t) in
+        and-next edged fifth _ t (ap (λ (c : ℕ). not (eqb c under)) (view_class l n under z u g)) ∙ the-test
 
   module _ (b : Bool) (e : b ≡ is_trace ts x) where
-    none_is : not b ≡ true → undo_in ts x ≡ none
+    none_is : b ≡ false → undo_in ts x ≡ none
     unfolding undo_in
-    none_is h = rw (sym e ∙ not-true b h)
+    none_is h = rw (sym e ∙ h)
 
-    pub undo-not : not b ≡ true → Tabled l n → Undoes l l n (undo_in ts x) false
+    pub undo-not : b ≡ false → Tabled l n → Undoes l l n (undo_in ts x) false
     undo-not h d = subst (λ (o : Option (List Term)). Undoes l l n o false) (sym (none_is h)) (no_table (record { long = refl; away = λ t w. refl; is = refl; index = left-none }) d)
 
-    module _ (h : not b ≡ false) (d : Tabled l n) where
+    module _ (h : b ≡ true) (d : Tabled l n) where
       traced : Traced ts x
-      traced = trace-says ts x (sym e ∙ not-false b h)
+      traced = trace-says ts x (sym e ∙ h)
 
       uncounted : (t : ℕ) → within (length ts) t ≡ true → within n t ≡ true
       uncounted t w = ap (λ (m : ℕ). within m t) (sym (view_count l n)) ∙ w

@@ -1,28 +1,25 @@
 -- The audit of marks over words: the copy, one table, the tables of all marks, and the answers of the audit.
 use mathlib.Core.Path.{◌≡◌, refl, sym, ap, subst, ◌∙◌}
-use mathlib.Core.Bool.{Bool, true, false, not, ◌&&◌}
+use mathlib.Core.Bool.{Bool, true, false, ◌&&◌}
 use mathlib.Core.List.{List, [], ◌∷◌, ◌++◌}
-use mathlib.Core.Logic.{◌⊎◌, inl, inr}
 use mathlib.Core.Option.{Option, none, some}
 use Prim.Native.Nat.{ℕ, suc, ◌+◌, ◌-◌, ◌<◌, ◌≤◌}
 use native.Mathlib.Omega.{arith}
-use native.Mathlib.Nat.{eq-or-lt_of_le}
-use lib.ListN.{length, get_or, set, drop, length-set}
-use lib.Seq.{get_or-set_same, get_or-set_other, drop-append-le, drop-append_seam, drop-length}
-use borrow.Author.Tests.{not-true, not-false}
+use lib.ListN.{length, get_or, drop}
+use lib.Seq.{drop-append-le, drop-append_seam, drop-length}
 use Rattle.records.specs.declared.State.{State}
 use Rattle.records.specs.Lists.{all, table, firsts, Every}
 use Rattle.records.specs.Store.{Term, Store, term_in, term, chain, within, class_up}
-use Rattle.records.specs.View.{Lent, store_of, terms_view, term_words, term_limit, chained, termed}
+use Rattle.records.specs.View.{Lent, store_of, terms_view, chained, termed}
 use Rattle.records.specs.Rules.{classes_rule, congruences_rule}
 use Rattle.records.specs.Working.Audited.{Closed, Classed, Congruable}
-use Rattle.records.proofs.Lists.{and-stop, and-next, right-false, right-true, failed, passed, all_append, table-length, table-suc, table_add}
+use Rattle.records.proofs.Lists.{and-stop, and-next, right-false, right-true, all_append, table-length, table-suc, table_add}
 use Rattle.records.proofs.Views.{terms-agree}
 use Rattle.records.proofs.Climbs.{view_count}
 use Rattle.records.proofs.Passed.{classed-of}
 use Rattle.classes.specs.declared.Standing.{Standing}
 use Rattle.classes.specs.Joins.{Trace}
-use Rattle.classes.specs.Marks.{Trail, join_limit, trace_at, trail_of, undo_all, table_at, counts_rule, passes, marks_rule}
+use Rattle.classes.specs.Marks.{Trail, trace_at, trail_of, undo_all, table_at, counts_rule, passes, marks_rule}
 use Rattle.classes.specs.Working.Carries.{Forest, Undoes, Markable, Copied}
 use Rattle.classes.proofs.Alike.{Like}
 use Rattle.classes.proofs.Marking.{classes-alone, passes-alone}
@@ -31,32 +28,6 @@ use Rattle.classes.proofs.Refines.Trails.{Came, undoes_some, undoes_none}
 use Rattle.classes.proofs.Refines.Counting.{counts_step}
 
 -- THE COPY
-
--- the first i words are copied, the others are as they were
-pub record Copying (l k₀ k : List ℕ) (n i : ℕ) : Type 0 where
-  pub low : i ≤ term_words n
-  pub long : length k ≡ term_words term_limit
-  pub words : (j : ℕ) → j < i → get_or k j 0 ≡ get_or l j 0
-  pub rest : (j : ℕ) → i ≤ j → get_or k j 0 ≡ get_or k₀ j 0
-
-pub copying_begin : (l k : List ℕ) (n : ℕ) → length k ≡ term_words term_limit → Copying l k k n 0
-copying_begin l k n e = record { low = omega arith; long = e; words = λ j h. absurd (omega arith); rest = λ j h. refl }
-
-module _ {l k₀ k : List ℕ} {n i : ℕ} (c : Copying l k₀ k n i) where
-  pub copying_turn : (x : ℕ) → n ≤ term_limit → i < term_words n → x ≡ get_or l i 0 → Copying l k₀ (set k i x) n (i + 1)
-  copying_turn x m h e = record {
-    low = omega arith;
-    long = length-set k i x ∙ c.long;
-    words = λ j p. go j p (eq-or-lt_of_le (let q : j ≤ i = omega arith in q));
-    rest = λ j p. get_or-set_other k i j x 0 (λ z. omega arith) ∙ c.rest j (omega arith);
-  }
-    where
-      go : (j : ℕ) → j < i + 1 → (j ≡ i) ⊎ (j < i) → get_or (set k i x) j 0 ≡ get_or l j 0
-      go j p (inl q) = ap (λ (z : ℕ). get_or (set k i x) z 0) q ∙ get_or-set_same k i x 0 (let w = c.long in omega arith) ∙ e ∙ ap (λ (z : ℕ). get_or l z 0) (sym q)
-      go j p (inr q) = get_or-set_other k i j x 0 (λ z. omega arith) ∙ c.words j q
-
-  pub copied : term_words n ≤ i → Copied l k₀ k n
-  copied h = record { words = λ j p. c.words j (omega arith); rest = λ j p. c.rest j (let w = c.low in omega arith); long = c.long }
 
 -- the terms are those of the words copied
 copied-terms : {l k₀ k : List ℕ} {n : ℕ} → Copied l k₀ k n → terms_view k n ≡ terms_view l n
@@ -71,12 +42,12 @@ module _ (l e : List ℕ) (c : State) (h : Markable l e c) (b : Bool) (q : b ≡
   seen : b ≡ classes_rule s
   seen = q ∙ classes-alone (terms_view l c.terms) s (termed l c)
 
-  pub table-not : not b ≡ true → false ≡ (classes_rule s && congruences_rule s)
-  table-not z = and-stop (classes_rule s) (congruences_rule s) (failed (classes_rule s) b seen z)
+  pub table-not : b ≡ false → b ≡ (classes_rule s && congruences_rule s)
+  table-not z = z ∙ and-stop (classes_rule s) (congruences_rule s) (sym seen ∙ z)
 
-  module _ (z : not b ≡ false) where
+  module _ (z : b ≡ true) where
     classed : Classed s
-    classed = classed-of s (passed (classes_rule s) b seen z)
+    classed = classed-of s (sym seen ∙ z)
 
     counted_in : (t : ℕ) → within c.terms t ≡ true → within (length (terms_view l c.terms)) t ≡ true
     counted_in t w = ap (λ (n : ℕ). within n t) (view_count l c.terms) ∙ w
@@ -93,7 +64,7 @@ module _ (l e : List ℕ) (c : State) (h : Markable l e c) (b : Bool) (q : b ≡
     }
 
     pub table_is : (r : Bool) → r ≡ congruences_rule s → r ≡ (classes_rule s && congruences_rule s)
-    table_is r k = and-next (classes_rule s) (congruences_rule s) r (passed (classes_rule s) b seen z) k
+    table_is r k = and-next (classes_rule s) (congruences_rule s) r (sym seen ∙ z) k
 
 -- THE TABLES OF ALL MARKS
 
@@ -140,9 +111,6 @@ module _ (l₀ e : List ℕ) (c : State) (marks : List ℕ) (m n : ℕ) where
     pub is : undo_all (drop joins (table (trace_at marks) n)) s₀.terms ≡ some (terms_view l c.terms)
     pub left : all at (table f i) ≡ all at (table f m)
 
-  pub joins_low : {l : List ℕ} {joins i : ℕ} → Auditing l joins i → n ≤ join_limit → joins ≤ join_limit
-  joins_low a h = let k = a.fits in omega arith
-
   pub auditing_begin : Markable l₀ e c → counts_rule (table f m) n ≡ true → Auditing l₀ n m
   unfolding undo_all
   auditing_begin h k = record {
@@ -170,12 +138,12 @@ module _ (l₀ e : List ℕ) (c : State) (marks : List ℕ) (m n : ℕ) where
     fails : at first ≡ false → false ≡ all at (table f m)
     fails g = sym (sym a.left ∙ all-last at f j i one_appended ∙ right-false (all at (table f i)) (at (f i)) (ap at (sym q) ∙ g))
 
-    pub auditing_none : {l' : List ℕ} (r : Bool) → Undoes l l' c.terms (undo_all (drop first (table (trace_at marks) joins)) (terms_view l c.terms)) r → not r ≡ true → false ≡ all at (table f m)
-    auditing_none {l'} r u z = fails (ap (passes s₀) (here none (undoes_none (subst (Undoes l l' c.terms _) (not-true r z) u))))
+    pub auditing_none : {l' : List ℕ} (r : Bool) → Undoes l l' c.terms (undo_all (drop first (table (trace_at marks) joins)) (terms_view l c.terms)) r → r ≡ false → false ≡ all at (table f m)
+    auditing_none {l'} r u z = fails (ap (passes s₀) (here none (undoes_none (subst (Undoes l l' c.terms _) z u))))
 
-    module _ {l' : List ℕ} (r : Bool) (u : Undoes l l' c.terms (undo_all (drop first (table (trace_at marks) joins)) (terms_view l c.terms)) r) (z : not r ≡ false) where
+    module _ {l' : List ℕ} (r : Bool) (u : Undoes l l' c.terms (undo_all (drop first (table (trace_at marks) joins)) (terms_view l c.terms)) r) (z : r ≡ true) where
       came : Came l l' c.terms (undo_all (drop first (table (trace_at marks) joins)) (terms_view l c.terms))
-      came = undoes_some (subst (Undoes l l' c.terms _) (not-false r z) u)
+      came = undoes_some (subst (Undoes l l' c.terms _) z u)
 
       back : undo_all (drop first (table (trace_at marks) n)) s₀.terms ≡ some (terms_view l' c.terms)
       back = here (some (terms_view l' c.terms)) (came.is ∙ ap some (sym came.becomes.is))
@@ -193,17 +161,17 @@ module _ (l₀ e : List ℕ) (c : State) (marks : List ℕ) (m n : ℕ) where
       passing = ap (passes s₀) back ∙ passes-alone (some (terms_view l' c.terms)) (chained l' e c) s₀ refl
 
       module _ (b : Bool) (g : b ≡ (classes_rule (chained l' e c) && congruences_rule (chained l' e c))) where
-        pub auditing_bad : not b ≡ true → false ≡ all at (table f m)
-        auditing_bad y = fails (passing ∙ sym g ∙ not-true b y)
+        pub auditing_bad : b ≡ false → false ≡ all at (table f m)
+        auditing_bad y = fails (passing ∙ sym g ∙ y)
 
-        pub auditing_turn : not b ≡ false → Auditing l' first i
+        pub auditing_turn : b ≡ true → Auditing l' first i
         auditing_turn y = record {
           long = came.becomes.long ∙ a.long;
           markable = auditing_asks;
           fits = (let k = first_low in let w = a.fits in omega arith);
           counts = ap (counts_rule (table f i)) q ∙ step.0;
           is = back;
-          left = sym (right-true (all at (table f i)) (at (f i)) (ap at (sym q) ∙ passing ∙ sym g ∙ not-false b y)) ∙ sym (all-last at f j i one_appended) ∙ a.left;
+          left = sym (right-true (all at (table f i)) (at (f i)) (ap at (sym q) ∙ passing ∙ sym g ∙ y)) ∙ sym (all-last at f j i one_appended) ∙ a.left;
         }
 
   pub auditing_done : {l : List ℕ} {joins i : ℕ} → Auditing l joins i → i ≤ 0 → true ≡ all at (table f m)
@@ -226,17 +194,14 @@ module _ (l e : List ℕ) (c : State) (marks : List ℕ) (d : Standing) where
     counted : b ≡ counts_rule trail.marks (length trail.joins)
     counted = q ∙ ap (counts_rule trail.marks) (sym (table-length (trace_at marks) d.joins))
 
-    pub marks-not : not b ≡ true → false ≡ marks_rule whole trail
+    pub marks-not : b ≡ false → false ≡ marks_rule whole trail
     unfolding marks_rule
-    marks-not z = and-stop (counts_rule trail.marks (length trail.joins)) _ (failed _ b counted z)
+    marks-not z = and-stop (counts_rule trail.marks (length trail.joins)) _ (sym counted ∙ z)
 
-    module _ (z : not b ≡ false) where
-      pub counts_are : counts_rule trail.marks d.joins ≡ true
-      counts_are = sym q ∙ not-false b z
-
+    module _ (z : b ≡ true) where
       tables_are : (r : Bool) → r ≡ all (each whole) trail.marks → r ≡ marks_rule whole trail
       unfolding marks_rule
-      tables_are r k = and-next (counts_rule trail.marks (length trail.joins)) (all (each whole) trail.marks) r (passed _ b counted z) k
+      tables_are r k = and-next (counts_rule trail.marks (length trail.joins)) (all (each whole) trail.marks) r (sym counted ∙ z) k
 
       pub marks-none : d.marks ≡ 0 → true ≡ marks_rule whole trail
       unfolding all table

@@ -1,15 +1,18 @@
 -- The code of merging meets its definition: the tests, the record written, and the three ways of the call.
+use Rattle.std.specs.Prelude.{Result, Ok, Err}
+use Rattle.records.specs.declared.refusal.Refusal.{Refusal}
+use Rattle.records.specs.declared.refusal.Refusal.TheVariants.{Argument}
+use Rattle.records.specs.Refusal.{number}
 use mathlib.Core.Path.{◌≡◌, refl, sym, ap, subst, ◌∙◌}
-use mathlib.Core.Bool.{Bool, true, false, not}
+use mathlib.Core.Bool.{Bool, true, false, not, ◌&&◌}
 use mathlib.Core.List.{List}
-use Prim.Native.Nat.{ℕ, zero, suc, ◌-◌, ◌≤◌, ◌<◌}
+use Prim.Native.Nat.{ℕ, ◌-◌, ◌≤◌, ◌<◌}
 use native.Mathlib.Omega.{arith}
 use lib.ListN.{length, set}
 use lib.Seq.{set-set}
 use lib.Dec.{eqb}
-use borrow.Author.Tests.{eq-eqb, ne_eqb, not-true, not-false}
 use Rattle.records.specs.declared.State.{State}
-use Rattle.records.specs.Store.{Term, Store, ok, stop, count, within, is_string, same_class, root_in, class_up, forest_up}
+use Rattle.records.specs.Store.{Term, Store, ok, count, within, is_string, same_class, root_in, class_up}
 use Rattle.records.specs.View.{Lent, lent, store_of, term_at, terms_view, term_words, zero_term}
 use Rattle.records.specs.Working.Puts.{TermSet}
 use Rattle.records.specs.Index.{bucket}
@@ -17,78 +20,61 @@ use Rattle.records.specs.Rules.{audit, is_number}
 use Rattle.records.specs.Make.{with_terms, with_class, with_edge}
 use Rattle.records.specs.Working.Audited.{Ready, Closed, Audited}
 use Rattle.records.specs.Calls.{call}
-use Rattle.records.proofs.Lists.{failed, passed, and-stop, and-next, five_1, five_2, five_3, five_4, five-last, within_low, within-high}
+use Rattle.records.proofs.Lists.{and-stop, and-next, within_low, within-high, both_left, both_right}
 use Rattle.records.proofs.IndexStores.{left-none, left-then, left_same, indexed-like}
 use Rattle.records.proofs.Passed.{ready_of, ready-after, audit-of}
-use Rattle.records.proofs.Public.{call_unready, call-unfit}
+use Rattle.records.proofs.Public.{call_refused, call-unfit}
 use Rattle.records.proofs.Grown.{string-term}
-use Rattle.records.proofs.Climbs.{view_term, view_count, view_class, view_forest, term-within, ready_roots}
-use Rattle.classes.specs.Merge.{is_root_in, can_merge, under, merge_in, merge_classes, merged, PublicMerge}
+use Rattle.records.proofs.Climbs.{view_term, view_count, term-within, ready_roots}
+use Rattle.classes.specs.Merge.{is_root_in, can_merge, under, merge_in, merge_classes, PublicMerge}
 use Rattle.classes.proofs.Alike.{bucket-like}
 use Rattle.classes.proofs.MergeKept.{mergeable, merge-like, merge-kept}
-
--- A ROOT
-
-module _ (l : List ℕ) (n t x : ℕ) (h : within n t ≡ true) (e : x ≡ (term_at l t).class_parent) where
-  pub root-not : (x ≡ t → ⊥) → false ≡ is_root_in (terms_view l n) t
-  unfolding is_root_in
-  root-not z = and-stop (eqb (class_up (terms_view l n) t) t) (eqb (forest_up (terms_view l n) t) t) (ne_eqb _ t (λ q. z (view_class l n t x h e ∙ q)))
-
-  pub root_by : (y : ℕ) → x ≡ t → y ≡ (term_at l t).forest_parent → eqb y t ≡ is_root_in (terms_view l n) t
-  unfolding is_root_in
-  root_by y q f = and-next (eqb (class_up (terms_view l n) t) t) (eqb (forest_up (terms_view l n) t) t) (eqb y t)
-      (eq-eqb _ t (sym (view_class l n t x h e) ∙ q))
-      (ap (λ (z : ℕ). eqb z t) (view_forest l n t y h f))
 
 -- THE TESTS
 
 module _ (m : Lent) (c : State) (child parent n : ℕ) where
-  abbrev first : Bool
-  first = is_string (store_of m c) child
+  abbrev s : Store
+  s = store_of m c
 
-  abbrev second : Bool
-  second = is_string (store_of m c) parent
+  -- all of the tests but the last, and but the last two
+  abbrev pub counted : Bool
+  counted = is_string s child && is_string s parent && is_number n
 
-  abbrev third : Bool
-  third = is_number n
+  abbrev pub rooted : Bool
+  rooted = counted && is_root_in s.terms child
 
-  abbrev fourth : Bool
-  fourth = is_root_in (terms_view m.terms c.terms) child
+  both-counted : counted ≡ true → (within c.terms child ≡ true) × (within c.terms parent ≡ true)
+  both-counted h =
+      let p = both_left (is_string s child && is_string s parent) _ h in
+      (term-within m c child (string-term s child (both_left _ _ p)), term-within m c parent (string-term s parent (both_right (is_string s child) _ p)))
 
-  abbrev fifth : Bool
-  fifth = not (same_class (store_of m c) child parent)
+  both-climb : rooted ≡ true → Ready m c → ((within c.terms child ≡ true) × (within c.terms parent ≡ true)) × Closed (class_up s.terms) c.terms
+  both-climb h d = (both-counted (both_left counted _ h), ready_roots m c d.audited.classed)
 
-  pub cannot_1 : (b : Bool) → b ≡ first → not b ≡ true → false ≡ can_merge child parent n (store_of m c)
-  unfolding can_merge
-  cannot_1 b e h = five_1 first second third fourth fifth (failed first b e h)
+  module _ (v : Bool) (e : v ≡ counted) where
+    pub child-counted : v ≡ true → within c.terms child ≡ true
+    child-counted h = (both-counted (sym e ∙ h)).0
 
-  pub cannot_2 : (b : Bool) → b ≡ second → not b ≡ true → false ≡ can_merge child parent n (store_of m c)
-  unfolding can_merge
-  cannot_2 b e h = five_2 first second third fourth fifth (failed second b e h)
+    pub test-root : v ≡ true → (r : Bool) → r ≡ is_root_in s.terms child → r ≡ rooted
+    test-root h r q = and-next counted _ r (sym e ∙ h) q
 
-  pub cannot_3 : (b : Bool) → b ≡ third → not b ≡ true → false ≡ can_merge child parent n (store_of m c)
-  unfolding can_merge
-  cannot_3 b e h = five_3 first second third fourth fifth (failed third b e h)
+    pub test-uncounted : v ≡ false → v ≡ rooted
+    test-uncounted h = h ∙ and-stop counted _ (sym e ∙ h)
 
-  pub cannot_4 : (b : Bool) → b ≡ fourth → not b ≡ true → false ≡ can_merge child parent n (store_of m c)
-  unfolding can_merge
-  cannot_4 b e h = five_4 first second third fourth fifth (failed fourth b e h)
+  module _ (w : Bool) (e : w ≡ rooted) where
+    pub child-climbs : w ≡ true → Ready m c → (within c.terms child ≡ true) × Closed (class_up s.terms) c.terms
+    child-climbs h d = let q = both-climb (sym e ∙ h) d in (q.0.0, q.1)
 
-  pub can-last : (b₁ b₂ b₃ b₄ : Bool) → b₁ ≡ first → not b₁ ≡ false → b₂ ≡ second → not b₂ ≡ false → b₃ ≡ third → not b₃ ≡ false → b₄ ≡ fourth → not b₄ ≡ false
-      → (x y : ℕ) → x ≡ root_in (terms_view m.terms c.terms) child → y ≡ root_in (terms_view m.terms c.terms) parent
-      → not (eqb x y) ≡ can_merge child parent n (store_of m c)
-  unfolding can_merge
-  can-last b₁ b₂ b₃ b₄ e₁ h₁ e₂ h₂ e₃ h₃ e₄ h₄ x y p q =
-      five-last first second third fourth fifth (not (eqb x y)) (passed first b₁ e₁ h₁) (passed second b₂ e₂ h₂) (passed third b₃ e₃ h₃) (passed fourth b₄ e₄ h₄)
-      (rw (p, q))
+    pub parent-climbs : w ≡ true → Ready m c → (within c.terms parent ≡ true) × Closed (class_up s.terms) c.terms
+    parent-climbs h d = let q = both-climb (sym e ∙ h) d in (q.0.1, q.1)
 
--- a string term is a term, and class parents are terms
-module _ (m : Lent) (c : State) (t : ℕ) (b : Bool) (e : b ≡ is_string (store_of m c) t) (h : not b ≡ false) where
-  pub string-within : within c.terms t ≡ true
-  string-within = term-within m c t (string-term (store_of m c) t (passed (is_string (store_of m c) t) b e h))
+    pub cannot-merge : w ≡ false → w ≡ can_merge child parent n s
+    unfolding can_merge
+    cannot-merge h = h ∙ and-stop rooted (not (same_class s child parent)) (sym e ∙ h)
 
-  pub can-climb : Ready m c → (within c.terms t ≡ true) × Closed (class_up (terms_view m.terms c.terms)) c.terms
-  can-climb d = (string-within, ready_roots m c d.audited.classed)
+    pub can-last : w ≡ true → (x y : ℕ) → x ≡ root_in s.terms child → y ≡ root_in s.terms parent → not (eqb x y) ≡ can_merge child parent n s
+    unfolding can_merge
+    can-last h x y p q = and-next rooted (not (same_class s child parent)) _ (sym e ∙ h) (rw (p, q))
 
 -- THE RECORD
 
@@ -102,34 +88,29 @@ set_twice {l} {l₁} {l₂} {t} {x} {y} a b = record {
   terms = λ n h. b.terms n h ∙ ap (λ (ts : List Term). set ts (t - 1) y) (a.terms n h) ∙ set-set (terms_view l n) (t - 1) x y;
 }
 
--- and it leaves the slice as long as it was
-pub put-room : {l l₁ : List ℕ} {t : ℕ} {x : Term} → TermSet l l₁ t x → term_words t ≤ length l → term_words t ≤ length l₁
-put-room a h = let e = a.long in omega arith
-
 pub put_under : (l l₁ l₂ : List ℕ) (t p v s : ℕ) → TermSet l l₁ t (with_class (term_at l t) p) → TermSet l₁ l₂ t (with_edge (term_at l₁ t) p 1 v s) → TermSet l l₂ t (under (term_at l t) p v s)
 put_under l l₁ l₂ t p v s a b = subst (TermSet l l₂ t) (ap (λ (x : Term). with_edge x p 1 v s) a.here) (set_twice a b)
 
 -- THE CALL
 
+not-merged : {A : Type 0} {k : Refusal} → ◌≡◌ {A = Result (Unit {0}) Refusal} (Err k) (Ok tt) → A
+not-merged q = let z : ◌≡◌ {A = ℕ} 0 1 = cc in absurd (omega arith)
+
 child-within : (m : Lent) (c : State) (child parent n : ℕ) → can_merge child parent n (store_of m c) ≡ true → within c.terms child ≡ true
 child-within m c child parent n g = term-within m c child (string-term (store_of m c) child (mergeable (store_of m c) child parent n g).child_string)
 
-module _ (m : Lent) (c : State) (child parent n stamp k : ℕ) (v : k ≡ audit m c) where
-  pub merge_unready : (k ≡ 0 → ⊥) → PublicMerge m m c child parent n stamp k
-  merge_unready z = record { says = go k z ∙ (call_unready (can_merge child parent n) (merge_classes child parent n stamp) m c k v z).says; idle = λ e. refl; others = λ t d. refl; index = λ n. left_same left-none n; kept = λ e. absurd (z e) }
-    where
-      go : (j : ℕ) → (j ≡ 0 → ⊥) → merged j m c ≡ stop j
-      go zero q = absurd (q refl)
-      go (suc j) q = refl
+pub merge_unready : (m : Lent) (c : State) (child parent n stamp : ℕ) (e : Refusal) → number e ≡ audit m c → PublicMerge m m c child parent n stamp (Err e)
+merge_unready m c child parent n stamp e v = record { says = (call_refused (can_merge child parent n) (merge_classes child parent n stamp) m c e v).says; idle = λ j q. refl; others = λ t d. refl; index = λ n. left_same left-none n; kept = λ q. not-merged q }
 
+module _ (m : Lent) (c : State) (child parent n stamp k : ℕ) (v : k ≡ audit m c) where
   module _ (z : k ≡ 0) (b : Bool) (e : b ≡ can_merge child parent n (store_of m c)) where
-    pub merge-unfit : not b ≡ true → PublicMerge m m c child parent n stamp 5
-    merge-unfit h = record { says = (call-unfit (can_merge child parent n) (merge_classes child parent n stamp) m c k v z b e (not-true b h)).says; idle = λ q. refl; others = λ t d. refl; index = λ n. left_same left-none n; kept = λ q. absurd (omega arith) }
+    pub merge-unfit : b ≡ false → PublicMerge m m c child parent n stamp (Err Argument)
+    merge-unfit h = record { says = (call-unfit (can_merge child parent n) (merge_classes child parent n stamp) m c k v z b e h).says; idle = λ j q. refl; others = λ t d. refl; index = λ n. left_same left-none n; kept = λ q. not-merged q }
 
     -- the child's record is within the slice
-    pub merge-room : not b ≡ false → term_words child ≤ length m.terms
+    pub merge-room : b ≡ true → term_words child ≤ length m.terms
     merge-room h =
-        let w = within-high c.terms child (child-within m c child parent n (sym e ∙ not-false b h)) in
+        let w = within-high c.terms child (child-within m c child parent n (sym e ∙ h)) in
         let r = (ready_of m c (sym v ∙ z)).sized.term_room in
         omega arith
 
@@ -139,13 +120,13 @@ unfolding zero_term
 zero-away a h = let p = a.away 0 (λ e. omega arith) in let q = a.index.nexts 0 in cc
 
 module _ (t e h r ks t' : List ℕ) (c : State) (child parent n stamp k : ℕ) (v : k ≡ audit (lent t e h r ks) c) (z : k ≡ 0)
-    (b : Bool) (f : b ≡ can_merge child parent n (store_of (lent t e h r ks) c)) (y : not b ≡ false) where
-  pub merge-is : TermSet t t' child (under (term_at t child) parent n stamp) → PublicMerge (lent t e h r ks) (lent t' e h r ks) c child parent n stamp 0
+    (b : Bool) (f : b ≡ can_merge child parent n (store_of (lent t e h r ks) c)) (y : b ≡ true) where
+  pub merge-is : TermSet t t' child (under (term_at t child) parent n stamp) → PublicMerge (lent t e h r ks) (lent t' e h r ks) c child parent n stamp (Ok tt)
   unfolding call merge_classes
   merge-is j =
       let m = lent t e h r ks in
       let a : audit m c ≡ 0 = sym v ∙ z in
-      let g : can_merge child parent n (store_of m c) ≡ true = sym f ∙ not-false b y in
+      let g : can_merge child parent n (store_of m c) ≡ true = sym f ∙ y in
       let w = child-within m c child parent n g in
       let p : terms_view t' c.terms ≡ merge_in (terms_view t c.terms) child parent n stamp =
       j.terms c.terms w ∙ ap (λ (x : Term). set (terms_view t c.terms) (child - 1) (under x parent n stamp)) (sym (view_term t c.terms child w)) in
@@ -155,7 +136,7 @@ module _ (t e h r ks t' : List ℕ) (c : State) (child parent n stamp k : ℕ) (
       let k = merged_store p q y₀ in
       record {
         says = stored p q y₀ ∙ sym (rw (a, g));
-        idle = λ o. absurd (o refl);
+        idle = λ k o. not-merged (sym o);
         others = j.away;
         index = λ n. left_same j.index n;
         kept = λ o. audit-of (lent t' e h r ks) c (ready-after d q refl (subst Audited (sym k) (merge-kept (store_of m c) child parent n stamp d.audited g))

@@ -1,6 +1,6 @@
 -- The words lent for marks: their sizes, a join or a mark recorded, and joins undone one after the other.
 use mathlib.Core.Path.{◌≡◌, refl, sym, ap, subst, ◌∙◌}
-use mathlib.Core.Bool.{Bool, true, false, not, ◌&&◌}
+use mathlib.Core.Bool.{Bool, true, false, ◌&&◌}
 use mathlib.Core.List.{List, [], ◌∷◌}
 use mathlib.Core.Option.{Option, none, some}
 use Prim.Native.Nat.{ℕ, suc, ◌+◌, ◌-◌, ◌*◌, ◌<◌, ◌≤◌}
@@ -8,12 +8,11 @@ use native.Mathlib.Omega.{arith}
 use lib.ListN.{length, get_or, set, drop, length-set}
 use lib.Seq.{get_or-set_same, get_or-set_other, drop-append-le, drop-length}
 use lib.Dec.{eqb, ltb, leb}
-use borrow.Author.Tests.{not-true, not-false, eqb-true, eqb-false, le-leb, lt-leb, le-ltb, lt-ltb, ltb-false, leb-true}
+use borrow.Author.Tests.{eqb-true, eqb-false, le-leb, le-ltb, lt-ltb, ltb-false, leb-true}
 use Rattle.records.specs.Lists.{table, one_more}
 use Rattle.records.specs.Store.{Term}
 use Rattle.records.specs.View.{terms_view}
-use Rattle.records.proofs.IndexStores.{left-none}
-use Rattle.records.proofs.Lists.{and-stop, and-next, both_left, both_right, both_true, left_false, or_left, or_right, decide, clash, table_same, table-length, table-suc}
+use Rattle.records.proofs.Lists.{and-next, both_left, both_right, both_true, or_left, or_right, decide, clash, table_same, table-length, table-suc}
 use Rattle.classes.specs.declared.Standing.{Standing}
 use Rattle.classes.specs.Joins.{Trace, trace, undo_in}
 use Rattle.classes.specs.Marks.{Trail, trace_place, trace_at, trail_of, trail_sizes, undo_all, mark_limit, join_limit}
@@ -25,14 +24,6 @@ use Rattle.classes.proofs.Refines.CarryWords.{becomes-then}
 -- SIZES
 
 module _ (l : List ℕ) (d : Standing) where
-  pub sizes-marks : mark_limit < d.marks → false ≡ trail_sizes l d
-  unfolding trail_sizes
-  sizes-marks h = and-stop (leb d.marks mark_limit && leb d.joins join_limit) _ (left_false _ _ (lt-leb d.marks mark_limit h))
-
-  pub sizes-joins : d.marks ≤ mark_limit → join_limit < d.joins → false ≡ trail_sizes l d
-  unfolding trail_sizes
-  sizes-joins h k = and-stop (leb d.marks mark_limit && leb d.joins join_limit) _ (sym (and-next (leb d.marks mark_limit) (leb d.joins join_limit) false (le-leb _ _ h) (sym (lt-leb _ _ k))))
-
   pub sizes-last : d.marks ≤ mark_limit → d.joins ≤ join_limit → leb 1597 (length l) ≡ trail_sizes l d
   unfolding trail_sizes
   sizes-last h k = and-next (leb d.marks mark_limit && leb d.joins join_limit) (leb 1597 (length l)) _ (both_true _ _ (le-leb _ _ h) (le-leb _ _ k)) refl
@@ -189,14 +180,6 @@ undoes_tabled {l} {l'} {n} (no_table b t) = (subst (TermsBecome l l' n) (sym b.i
 pub undoes_is : {l l' : List ℕ} {n : ℕ} {o p : Option (List Term)} {r : Bool} → o ≡ p → Undoes l l' n p r → Undoes l l' n o r
 undoes_is {l} {l'} {n} {r = r} e u = subst (λ (x : Option (List Term)). Undoes l l' n x r) (sym e) u
 
--- the three words of a join
-pub undoes_read : {l l' : List ℕ} {n : ℕ} {r : Bool} (marks : List ℕ) (j child old under : ℕ) → child ≡ get_or marks (trace_place j 0) 0 → old ≡ get_or marks (trace_place j 1) 0 → under ≡ get_or marks (trace_place j 2) 0
-    → Undoes l l' n (undo_in (terms_view l n) (trace child old under)) r → Undoes l l' n (undo_in (terms_view l n) (trace_at marks j)) r
-undoes_read {l} {n = n} marks j child old under p q k u = undoes_is (ap (undo_in (terms_view l n)) (read p q k)) u
-  where
-    read : child ≡ get_or marks (trace_place j 0) 0 → old ≡ get_or marks (trace_place j 1) 0 → under ≡ get_or marks (trace_place j 2) 0 → trace_at marks j ≡ trace child old under
-    read a b c = cc
-
 -- with j joins left, what is left to undo gives what the whole gives
 pub record Backward (l₀ l : List ℕ) (n : ℕ) (marks : List ℕ) (joins first j : ℕ) : Type 0 where
   pub low : first ≤ j
@@ -204,9 +187,6 @@ pub record Backward (l₀ l : List ℕ) (n : ℕ) (marks : List ℕ) (joins firs
   pub until : TermsBecome l₀ l n (terms_view l n)
   pub tabled : Tabled l n
   pub left : undo_all (drop first (table (trace_at marks) joins)) (terms_view l₀ n) ≡ undo_all (drop first (table (trace_at marks) j)) (terms_view l n)
-
-pub backward_begin : (l : List ℕ) (n : ℕ) (marks : List ℕ) (joins first : ℕ) → Tabled l n → first ≤ joins → Backward l l n marks joins first joins
-backward_begin l n marks joins first t h = record { low = h; high = omega arith; until = record { long = refl; away = λ u k. refl; is = refl; index = left-none }; tabled = t; left = refl }
 
 module _ {l₀ l : List ℕ} {n : ℕ} {marks : List ℕ} {joins first j : ℕ} (b : Backward l₀ l n marks joins first j) where
   pub backward_done : j ≤ first → Undoes l₀ l n (undo_all (drop first (table (trace_at marks) joins)) (terms_view l₀ n)) true
@@ -222,17 +202,17 @@ module _ {l₀ l : List ℕ} {n : ℕ} {marks : List ℕ} {joins first j : ℕ} 
         ap (λ (k : ℕ). drop first (table (trace_at marks) k)) (let q : j ≡ suc i = omega arith in q) ∙ ap (drop first) (table-suc (trace_at marks) i)
         ∙ drop-append-le first (table (trace_at marks) i) _ (let q = table-length (trace_at marks) i in omega arith)
 
-    pub backward_stop : {l' : List ℕ} (r : Bool) → Undoes l l' n (undo_in (terms_view l n) (trace_at marks i)) r → not r ≡ true → Undoes l₀ l' n (undo_all (drop first (table (trace_at marks) joins)) (terms_view l₀ n)) false
+    pub backward_stop : {l' : List ℕ} (r : Bool) → Undoes l l' n (undo_in (terms_view l n) (trace_at marks i)) r → r ≡ false → Undoes l₀ l' n (undo_all (drop first (table (trace_at marks) joins)) (terms_view l₀ n)) false
     unfolding undo_all
     backward_stop {l'} r u z =
-        let v = undoes_none (subst (Undoes l l' n (undo_in (terms_view l n) (trace_at marks i))) (not-true r z) u) in
+        let v = undoes_none (subst (Undoes l l' n (undo_in (terms_view l n) (trace_at marks i))) z u) in
         undoes_is (b.left ∙ ap (λ (k : List Trace). undo_all k (terms_view l n)) last-first ∙ undo-stops (drop first (table (trace_at marks) i)) (trace_at marks i ∷ []) (terms_view l n) v)
         (no_table (becomes-then b.until (undoes_tabled u).0) (undoes_tabled u).1)
 
-    pub backward_turn : {l' : List ℕ} (r : Bool) → Undoes l l' n (undo_in (terms_view l n) (trace_at marks i)) r → not r ≡ false → Backward l₀ l' n marks joins first i
+    pub backward_turn : {l' : List ℕ} (r : Bool) → Undoes l l' n (undo_in (terms_view l n) (trace_at marks i)) r → r ≡ true → Backward l₀ l' n marks joins first i
     unfolding undo_all
     backward_turn {l'} r u z =
-        let c = undoes_some (subst (Undoes l l' n (undo_in (terms_view l n) (trace_at marks i))) (not-false r z) u) in
+        let c = undoes_some (subst (Undoes l l' n (undo_in (terms_view l n) (trace_at marks i))) z u) in
         record {
           low = omega arith;
           high = (let k = b.high in omega arith);

@@ -9,15 +9,13 @@ pub overflow_sub-left : goal.overflow_sub-left
 overflow_sub-left c =
     let e = c.wide-left.ensures in let h = within_low _ _ c.requires.mark_value in omega arith
 
-pub undo_to_unchecked-requires : goal.undo_to_unchecked-requires
-undo_to_unchecked-requires c =
-    let h = back-asked c.requires.ready_marks c.args.mark c.requires.mark_value (ap (λ (x : ℕ). x - 1) c.wide-left.ensures)
-    (c.wide-joins.ensures ∙ c.word.ensures) in
-    record {
-      fact_1 = h.0;
-      fact_2 = h.1.0;
-      fact_3 = h.1.1;
-    }
+pub undo_to_unchecked-requires-clause-tabled : goal.undo_to_unchecked-requires-clause-tabled
+undo_to_unchecked-requires-clause-tabled c =
+    (back-asked c.requires.ready_marks c.args.mark c.requires.mark_value (ap (λ (x : ℕ). x - 1) c.wide-left.ensures) (c.wide-joins.ensures ∙ c.word.ensures)).0
+
+pub undo_to_unchecked-requires-clause-order : goal.undo_to_unchecked-requires-clause-order
+undo_to_unchecked-requires-clause-order c =
+    (back-asked c.requires.ready_marks c.args.mark c.requires.mark_value (ap (λ (x : ℕ). x - 1) c.wide-left.ensures) (c.wide-joins.ensures ∙ c.word.ensures)).1.0
 
 pub returns : goal.returns
 returns c =

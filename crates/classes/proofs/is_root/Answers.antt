@@ -1,10 +1,13 @@
-use Rattle.classes.proofs.Refines.Merge.{root-not, root_by}
+use Rattle.std.proofs.lemmas.Grind.{common_steps}
+use Rattle.std.proofs.Common.{arith}
+use Rattle.records.proofs.Climbs.{view_class, view_forest}
+use Rattle.classes.specs.Merge.{is_root_in}
 use Rattle.classes.proofs.is_root.Goals as goal
 
 pub returns-then-class_parent-t : goal.returns-then-class_parent-t
-returns-then-class_parent-t c =
-    root-not c.args.terms.now c.args.n c.args.t _ c.requires c.class_parent.ensures c.if-class_parent-t.true
+unfolding is_root_in
+returns-then-class_parent-t c = grind (arith, common_steps, view_class, view_forest)
 
-pub returns : goal.returns
-returns c =
-    root_by c.args.terms.now c.args.n c.args.t _ c.requires c.class_parent.ensures _ c.if-class_parent-t.false c.forest_parent.ensures
+pub returns-else-class_parent-t : goal.returns-else-class_parent-t
+unfolding is_root_in
+returns-else-class_parent-t c = grind (arith, common_steps, view_class, view_forest)

@@ -1,31 +1,22 @@
-use mathlib.Core.Path.{sym, ◌∙◌}
-use Rattle.records.specs.View.{lent}
-use Rattle.records.proofs.Lists.{passed}
+use mathlib.Core.Path.{sym}
+use Rattle.records.proofs.Public.{handed}
 use Rattle.classes.proofs.ReadyMarks.{marks-ready}
 use Rattle.classes.proofs.Refines.PublicCalls.{join_unready, join-wrong, join-gives}
 use Rattle.classes.proofs.join.Goals as goal
 
-pub returns-then-k-ne0 : goal.returns-then-k-ne0
-returns-then-k-ne0 c =
-    join_unready (lent c.args.terms.now c.args.cells.now c.args.chars.now c.args.reasons.now c.args.keys.now)
-    c.args.marks.now c.args.c c.args.d c.args.a c.args.b c.args.kind c.args.number _
-    c.audit-k.ensures c.if-k-ne0.true
+pub returns-in_err-audit : goal.returns-in_err-audit
+returns-in_err-audit c =
+    rw (handed _ c.from_residual.ensures.1) (join_unready _ _ _ _ _ _ _ _ _ c.in_err-audit.ensures)
 
 pub returns-then-not-can_join : goal.returns-then-not-can_join
 returns-then-not-can_join c =
-    join-wrong (lent c.args.terms.now c.args.cells.now c.args.chars.now c.args.reasons.now c.args.keys.now)
-    c.args.marks.now c.args.c c.args.d c.args.a c.args.b c.args.kind c.args.number
-    (sym c.audit-k.ensures ∙ c.if-k-ne0.false) _ c.can_join.ensures c.if-not-can_join.true-raw
+    join-wrong _ _ _ _ _ _ _ _
+    (sym c.in_ok-audit.ensures) _ c.can_join.ensures c.if-not-can_join.true
 
-pub join_unchecked-r-requires : goal.join_unchecked-r-requires
-join_unchecked-r-requires c =
-    record {
-      ready_marks = marks-ready (sym c.audit-k.ensures ∙ c.if-k-ne0.false);
-      c_value = passed _ _ c.can_join.ensures c.if-not-can_join.false-raw;
-    }
+pub join_unchecked-r-requires-clause-ready_marks : goal.join_unchecked-r-requires-clause-ready_marks
+join_unchecked-r-requires-clause-ready_marks c = marks-ready (sym c.in_ok-audit.ensures)
 
 pub returns : goal.returns
 returns c =
-    join-gives (lent c.args.terms.now c.args.cells.now c.args.chars.now c.args.reasons.now c.args.keys.now)
-    c.args.marks.now c.args.c c.args.d c.args.a c.args.b c.args.kind c.args.number
-    (sym c.audit-k.ensures ∙ c.if-k-ne0.false) c.join_unchecked-r.ensures
+    join-gives _ _ _ _ _ _ _ _
+    (sym c.in_ok-audit.ensures) c.join_unchecked-r.ensures

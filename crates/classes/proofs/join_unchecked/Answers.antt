@@ -19,14 +19,10 @@ top_unchecked-old-requires c =
     top-asked c.requires.ready_marks c.args.a c.args.b c.args.kind c.args.number c.requires.c_value
     c.root_unchecked-under.ensures c.root_unchecked-over.ensures c.if-under-over.false
 
-pub record_join_unchecked-e-requires : goal.record_join_unchecked-e-requires
-record_join_unchecked-e-requires c =
-    let h = record-asked c.requires.ready_marks c.args.a c.args.b c.args.kind c.args.number c.requires.c_value
-    c.root_unchecked-under.ensures c.root_unchecked-over.ensures c.if-under-over.false in
-    record {
-      fact_1 = h.0;
-      fact_2 = h.1;
-    }
+pub record_join_unchecked-e-requires-clause-room : goal.record_join_unchecked-e-requires-clause-room
+record_join_unchecked-e-requires-clause-room c =
+    (record-asked c.requires.ready_marks c.args.a c.args.b c.args.kind c.args.number c.requires.c_value
+    c.root_unchecked-under.ensures c.root_unchecked-over.ensures c.if-under-over.false).1
 
 pub link_unchecked-requires : goal.link_unchecked-requires
 link_unchecked-requires c =

@@ -1,32 +1,27 @@
+use mathlib.Core.Path.{refl}
 use Rattle.classes.proofs.Refines.Merge.{merge_unready, merge-unfit, merge-room, merge-is}
-use Rattle.records.proofs.Public.{passed-ready}
-use Rattle.records.specs.View.{lent}
+use Rattle.records.proofs.Public.{handed, passed-ready}
 use Rattle.classes.proofs.merge.Goals as goal
 
-pub returns-then-k-ne0 : goal.returns-then-k-ne0
-returns-then-k-ne0 c =
-    merge_unready (lent c.args.terms.now c.args.cells.now c.args.chars.now c.args.reasons.now c.args.keys.now)
-    c.args.c c.args.child c.args.parent c.args.n c.args.stamp _ c.audit-k.ensures c.if-k-ne0.true
+pub returns-in_err-audit : goal.returns-in_err-audit
+returns-in_err-audit c =
+    rw (handed _ c.from_residual.ensures.1) (merge_unready _ _ _ _ _ _ _ c.in_err-audit.ensures)
 
 pub can_merge_unchecked-requires : goal.can_merge_unchecked-requires
 can_merge_unchecked-requires c =
-    passed-ready (lent c.args.terms.now c.args.cells.now c.args.chars.now c.args.reasons.now c.args.keys.now)
-    c.args.c _ c.audit-k.ensures c.if-k-ne0.false
+    passed-ready _ _ _ c.in_ok-audit.ensures refl
 
 pub returns-then-not-can_merge_unchecked : goal.returns-then-not-can_merge_unchecked
 returns-then-not-can_merge_unchecked c =
-    merge-unfit (lent c.args.terms.now c.args.cells.now c.args.chars.now c.args.reasons.now c.args.keys.now)
-    c.args.c c.args.child c.args.parent c.args.n c.args.stamp _ c.audit-k.ensures c.if-k-ne0.false _
-    c.can_merge_unchecked.ensures c.if-not-can_merge_unchecked.true-raw
+    merge-unfit _ _ _ _ _ _ _ c.in_ok-audit.ensures refl _
+    c.can_merge_unchecked.ensures c.if-not-can_merge_unchecked.true
 
 pub put_under_unchecked-requires : goal.put_under_unchecked-requires
 put_under_unchecked-requires c =
-    merge-room (lent c.args.terms.now c.args.cells.now c.args.chars.now c.args.reasons.now c.args.keys.now)
-    c.args.c c.args.child c.args.parent c.args.n c.args.stamp _ c.audit-k.ensures c.if-k-ne0.false _
-    c.can_merge_unchecked.ensures c.if-not-can_merge_unchecked.false-raw
+    merge-room _ _ c.args.child c.args.parent c.args.n c.args.stamp _ c.in_ok-audit.ensures refl _
+    c.can_merge_unchecked.ensures c.if-not-can_merge_unchecked.false
 
 pub returns : goal.returns
 returns c =
-    merge-is c.args.terms.now c.args.cells.now c.args.chars.now c.args.reasons.now c.args.keys.now _
-    c.args.c c.args.child c.args.parent c.args.n c.args.stamp _ c.audit-k.ensures c.if-k-ne0.false _
-    c.can_merge_unchecked.ensures c.if-not-can_merge_unchecked.false-raw c.put_under_unchecked.ensures
+    merge-is _ _ _ _ _ _ _ _ _ _ _ _ c.in_ok-audit.ensures refl _
+    c.can_merge_unchecked.ensures c.if-not-can_merge_unchecked.false c.put_under_unchecked.ensures

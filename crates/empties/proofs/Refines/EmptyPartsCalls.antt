@@ -1,4 +1,5 @@
 -- Each way through the functions that make "", take the lists flattened, and test what was lent.
+use Rattle.std.specs.Prelude.{Result, Ok, Err}
 use mathlib.Core.Path.{◌≡◌, refl, sym, ap, subst, ◌∙◌}
 use mathlib.Core.Bool.{Bool, true, false, not}
 use mathlib.Core.List.{List, [], ◌∷◌, ◌++◌}
@@ -7,10 +8,9 @@ use Prim.Native.Nat.{ℕ, zero, suc, ◌≤◌, ◌<◌}
 use native.Mathlib.Omega.{arith}
 use lib.ListN.{length, take, get_or}
 use lib.Seq.{take-suc}
-use borrow.Author.Tests.{not-false}
 use Rattle.records.specs.declared.State.{State}
-use Rattle.records.specs.declared.Made.{Made}
-use Rattle.records.specs.declared.Made.TheVariants.{Term, Refused}
+use Rattle.records.specs.declared.refusal.Refusal.{Refusal}
+use Rattle.records.specs.Refusal.{number}
 use Rattle.records.specs.Lists.{all, table}
 use Rattle.records.specs.Store.{Store, Out, ok, stop, and_then, ◌>>=◌, within, is_string}
 use Rattle.records.specs.View.{Lent, lent, store_of, read_in, termed}
@@ -20,7 +20,7 @@ use Rattle.records.specs.Working.Audited.{Ready}
 use Rattle.records.specs.Calls.{made, writes_nothing}
 use Rattle.records.specs.Working.Doing.{Working, CutRefused}
 use Rattle.records.proofs.Lists.{table-length, both_left, both_right, both_true, every_all, every_map, all_every}
-use Rattle.records.proofs.Public.{Undone, given, cut, undone-is, passed-ready, audit-idle}
+use Rattle.records.proofs.Public.{Undone, given, cut, undone-is, numbered, passed-ready, audit-idle}
 use Rattle.records.proofs.IndexStores.{keeps_same}
 use Rattle.records.proofs.Doing.{working_same, working_stopped, working_is, working_left}
 use Rattle.records.proofs.Grown.{grown-string}
@@ -37,9 +37,7 @@ use Rattle.sides.specs.Working.Stripping.{Readable}
 use Rattle.empties.specs.Empties.{empty_against, unmet, Parts, linked, parts_of, emptied, sides, empty_parts}
 use Rattle.empties.specs.Repeats.{Repeats}
 use Rattle.empties.specs.declared.Empties.{Empties}
-use Rattle.empties.specs.declared.Empties.TheVariants as empties
 use Rattle.empties.specs.Calls.{listed, PublicEmpties}
-use Rattle.empties.specs.Working.Cuts.{unlisted}
 use Rattle.empties.specs.Working.Listing.{Starts}
 use Rattle.normalize.proofs.Atoms.{every_of}
 use Rattle.empties.proofs.Unmet.{unmet-agree}
@@ -58,14 +56,14 @@ words-taken l (suc n) h = ap (λ (w : List ℕ). w ++ (get_or l n 0 ∷ [])) (wo
 abbrev onward : List ℕ → ℕ → Store → Out Parts
 onward l e s = ok s (parts_of e (unmet s (e ∷ []) l))
 
-module _ {m m₁ : Lent} {c : State} {x : Made} (l : List ℕ) (w : Working (make_constant []) m m₁ c (made x m₁)) where
-  pub empties-stop : {k : ℕ} → x ≡ Refused k → Working (emptied l) m m₁ c (stop k)
+module _ {m m₁ : Lent} {c : State} {x : Result (ℕ × State) Refusal} (l : List ℕ) (w : Working (make_constant []) m m₁ c (made x m₁)) where
+  pub empties-stop : {e : Refusal} → x ≡ Err e → Working (emptied l) m m₁ c (stop (number e))
   unfolding emptied
   empties-stop e = working_stopped (ap (and_then (onward l)) (made-stops e w).says) w.kept
 
-  module _ {t : ℕ} {d : State} (e : x ≡ Term t d) where
+  module _ {t : ℕ} {d : State} (e : x ≡ Ok (t, d)) where
     empties-ready : Ready m₁ d
-    empties-ready = w.ready d t (ap (λ (y : Made). made y m₁) e)
+    empties-ready = w.ready d t (ap (λ (y : Result (ℕ × State) Refusal). made y m₁) e)
 
     -- the classes are those of the terms, whatever else is lent
     there : unmet (store_of m₁ d) (t ∷ []) l ≡ unmet (read_in m₁.terms m₁.chars d) (t ∷ []) l
@@ -129,9 +127,9 @@ module _ (m : Lent) (c : State) (l r : List ℕ) where
 -- THE CALL
 
 -- an answer handed on: after a refusal the index is cut
-pub undone-listed : {t t' : List ℕ} (e h r ks : List ℕ) {n : ℕ} (l : List ℕ) (x : Empties) {o : Empties} → CutRefused unlisted t t' n x o → Undone (lent t e h r ks) (lent t' e h r ks) n (listed x (lent t e h r ks) l) (listed o (lent t' e h r ks) l)
-undone-listed e h r ks l (empties.Parts d u k f) p = given _ _ refl (rw (p.same, p.given refl)) (ap (λ (w : List ℕ). lent w e h r ks) (p.given refl))
-undone-listed e h r ks l (empties.Refused j) p = cut j refl (rw p.same) (p.refused refl) (record { cells = refl; chars = refl; reasons = refl; keys = refl })
+pub undone-listed : {t t' : List ℕ} (e h r ks : List ℕ) {n : ℕ} (l : List ℕ) (x : Result Empties Refusal) {o : Result Empties Refusal} → CutRefused t t' n x o → Undone (lent t e h r ks) (lent t' e h r ks) n (listed x (lent t e h r ks) l) (listed o (lent t' e h r ks) l)
+undone-listed e h r ks l (Ok a) p = given _ _ refl (rw (p.same, p.given refl)) (ap (λ (w : List ℕ). lent w e h r ks) (p.given refl))
+undone-listed e h r ks l (Err j) p = cut (number j) refl (rw p.same) (p.refused refl) (record { cells = refl; chars = refl; reasons = refl; keys = refl })
 
 module _ (l r : List ℕ) (m : Lent) (c : State) (k : List ℕ) where
   -- a refusal that writes nothing is worth nothing
@@ -146,12 +144,12 @@ module _ (l r : List ℕ) (m : Lent) (c : State) (k : List ℕ) where
     parts_unready d = record { is = listed_unready (equal_arguments l r) (empty_parts l r) m c k h j v d; repeats = λ f. idle (audit-idle m c j v) f; worth = λ s' x e. stop-not e }
 
     module _ (z : j ≡ 0) (b : Bool) (i : b ≡ equal_arguments l r (store_of m c)) where
-      pub parts-unfit : not b ≡ true → PublicEmpties l r m m k k c (stop 5)
-      parts-unfit f = record { is = listed-unfit (equal_arguments l r) (empty_parts l r) m c k h j v z b i f; repeats = λ g. idle (inl (omega arith)) g; worth = λ s' x e. stop-not e }
+      pub parts-unfit : b ≡ false → PublicEmpties l r m m k k c (stop 5)
+      parts-unfit f = record { is = listed-unfit (equal_arguments l r) (empty_parts l r) m c k h j v z b i (ap not f); repeats = λ g. idle (inl (omega arith)) g; worth = λ s' x e. stop-not e }
 
-      module _ (f : not b ≡ false) where
+      module _ (f : b ≡ true) where
         fit : equal_arguments l r (store_of m c) ≡ true
-        fit = sym i ∙ not-false b f
+        fit = sym i ∙ f
 
         pub parts-ready : Ready m c
         parts-ready = passed-ready m c j v z
@@ -161,7 +159,11 @@ module _ (l r : List ℕ) (m : Lent) (c : State) (k : List ℕ) where
 
         pub parts_called : {m₁ m' : Lent} {k' : List ℕ} {o₁ o : Out Parts} → Working (empty_parts l r) m m₁ c o₁ → Undone m₁ m' c.terms o₁ o → PublicEmpties l r m m' k k' c o
         parts_called w u = record {
-          is = listed-works (equal_arguments l r) (empty_parts l r) m c k h j v z b i f (parts-stops l r (store_of m c)) w u;
+          is = listed-works (equal_arguments l r) (empty_parts l r) m c k h j v z b i (ap not f) (parts-stops l r (store_of m c)) w u;
           repeats = λ q. subst (Repeats (store_of m c) l r) (w.says ∙ sym (undone-is u)) (repeats l r (store_of m c) parts-ready.audited parts-lists.left parts-lists.right);
           worth = λ s' x e. listed-worth l r (store_of m c) s' x parts-ready.audited (w.says ∙ sym (undone-is u) ∙ e);
         }
+
+-- the same of what the audit answers as a Result
+pub parts_refused : (l r : List ℕ) (m : Lent) (c : State) (k : List ℕ) → list_limit ≤ length k → (e : Refusal) → number e ≡ audit m c → PublicEmpties l r m m k k c (stop (number e))
+parts_refused l r m c k h e v = parts_unready l r m c k h (number e) v (numbered e)

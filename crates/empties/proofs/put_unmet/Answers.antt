@@ -13,7 +13,7 @@ pub is_met-requires : goal.is_met-requires
 is_met-requires c =
     record {
       readable = c.requires.readable;
-      met_value = c.requires.list_value;
+      strings = c.requires.strings;
     }
 
 pub returns-then-is_met : goal.returns-then-is_met
@@ -21,7 +21,7 @@ returns-then-is_met c =
     put-met (read_in c.args.terms.now c.args.chars.now c.args.c) _ _ _ c.args.list.now c.requires.n_in_bounds _
     c.is_met.ensures c.if-is_met.true
 
-pub returns : goal.returns
-returns c =
+pub returns-else-is_met : goal.returns-else-is_met
+returns-else-is_met c =
     put-new (read_in c.args.terms.now c.args.chars.now c.args.c) _ _ _ c.args.list.now c.requires.n_in_bounds _
     c.is_met.ensures c.if-is_met.false

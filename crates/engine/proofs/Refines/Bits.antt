@@ -99,9 +99,6 @@ triangle-twice (suc n) =
 triangle_half : (n : ℕ) → n * (n + 1) / 2 ≡ triangle n
 triangle_half n = let e = triangle-twice n in omega arith
 
-pub triangle-fits : (n : ℕ) → n < 2 ^ 32 → n * (n + 1) ≤ 4294967295 * 4294967296
-triangle-fits n h = mul-le-mul {n₁ = n} {m₁ = n + 1} {n₂ = 4294967295} {m₂ = 4294967296} (omega arith) (omega arith)
-
 triangle-up : (m n : ℕ) → m ≤ n → triangle m ≤ triangle n
 unfolding triangle
 triangle-up m zero h = let e : m ≡ 0 = omega arith in rw e (omega arith)
@@ -115,15 +112,8 @@ triangle-next : (m n : ℕ) → m < n → triangle m + m < triangle n
 unfolding triangle
 triangle-next m n h = let k = triangle-up (suc m) n (omega arith) in omega arith
 
-pub place-first : (a b : ℕ) → a < b → b * (b + 1) / 2 + a ≡ place a b
-place-first a b h =
-    let p : min a b ≡ a = omega arith in
-    let q : max a b ≡ b = omega arith in rw (p, q, triangle_half b)
-
-pub place-second : (a b : ℕ) → b ≤ a → a * (a + 1) / 2 + b ≡ place a b
-place-second a b h =
-    let p : min a b ≡ b = omega arith in
-    let q : max a b ≡ a = omega arith in rw (p, q, triangle_half a)
+pub place_of_sorted : (a b h l : ℕ) → h ≡ max a b → l ≡ min a b → h * (h + 1) / 2 + l ≡ place a b
+place_of_sorted a b h l i j = rw (i, j, triangle_half (max a b))
 
 -- the places of numbers up to n
 pub place-small : (n a b : ℕ) → a ≤ n → b ≤ n → place a b ≤ triangle n + n

@@ -4,9 +4,10 @@ use mathlib.Core.Logic.{inl}
 use mathlib.Core.Bool.{Bool, true, false, not, ◌&&◌}
 use Prim.Native.Nat.{ℕ}
 use native.Mathlib.Omega.{arith}
-use lib.Dec.{eqb}
 use borrow.Author.Tests.{not-true, not-false}
 use Rattle.records.specs.declared.State.{State}
+use Rattle.records.specs.declared.refusal.Refusal.{Refusal}
+use Rattle.records.specs.Refusal.{number}
 use Rattle.records.specs.Store.{Store, Out, ok, stop, is_string, same_class, within, root_in, class_up, term_in}
 use Rattle.records.specs.View.{Lent, store_of, terms_view}
 use Rattle.records.specs.Lists.{Every}
@@ -15,12 +16,12 @@ use Rattle.records.specs.Working.Audited.{Audited, Ready, Closed}
 use Rattle.records.specs.Calls.{Public, writes_nothing, call}
 use Rattle.records.specs.Working.Doing.{Working}
 use lib.Seq.{drop-append_seam}
-use Rattle.records.proofs.Lists.{both_left, both_right, left_false, right-false}
+use Rattle.records.proofs.Lists.{both_left, both_right}
 use Rattle.records.proofs.LaterStores.{added-once}
 use Rattle.records.proofs.Passed.{ready_of}
 use Rattle.records.proofs.Doing.{working_same}
 use Rattle.records.proofs.Outcomes.{refused-by}
-use Rattle.records.proofs.Public.{call_unready, call-unfit, call_still, call_works, audit-idle}
+use Rattle.records.proofs.Public.{call_refused, call-unfit, call_still, call_works, audit-idle}
 use Rattle.records.proofs.Grown.{string-term}
 use Rattle.records.proofs.Climbs.{term-within, ready_roots}
 use Rattle.engine.specs.Explain.{find, find_arguments, explain, explain_arguments}
@@ -28,20 +29,20 @@ use Rattle.engine.specs.Calls.{PublicExplain}
 use Rattle.engine.specs.Meaning.{added_to, Labels}
 use Rattle.engine.proofs.Sound.{Gave, explain_gives, explain_sound, explain_stops}
 
+-- a string term has a root
+pub string_root : {m : Lent} {c : State} {x : Bool} (t : ℕ) → Ready m c → x ≡ is_string (store_of m c) t → x ≡ true
+    → (within c.terms t ≡ true) × Closed (class_up (terms_view m.terms c.terms)) c.terms
+string_root {m} {c} t d e h = (term-within m c t (string-term (store_of m c) t (sym e ∙ h)), ready_roots m c d.audited.classed)
+
 -- FIND
 
 module _ (m : Lent) (c : State) (t k : ℕ) (v : k ≡ audit m c) where
-  pub find_unready : (k ≡ 0 → ⊥) → Public (call (find_arguments t) (find t) m c) m m c (stop k)
-  find_unready d = call_unready (find_arguments t) (find t) m c k v d
-
   module _ (z : k ≡ 0) (b : Bool) (e : b ≡ within 3 (term_in (terms_view m.terms c.terms) t).kind) where
     pub find-unfit : not b ≡ true → Public (call (find_arguments t) (find t) m c) m m c (stop 5)
     find-unfit h = call-unfit (find_arguments t) (find t) m c k v z b e (not-true b h)
 
     pub find-here : not b ≡ false → (within c.terms t ≡ true) × Closed (class_up (terms_view m.terms c.terms)) c.terms
-    find-here h =
-        let d = ready_of m c (sym v ∙ z) in
-        (term-within m c t (string-term (store_of m c) t (sym e ∙ not-false b h)), ready_roots m c d.audited.classed)
+    find-here h = string_root t (ready_of m c (sym v ∙ z)) e (not-false b h)
 
     pub find-gives : not b ≡ false → (r : ℕ) → r ≡ root_in (terms_view m.terms c.terms) t → Public (call (find_arguments t) (find t) m c) m m c (ok (store_of m c) r)
     unfolding find
@@ -51,39 +52,23 @@ module _ (m : Lent) (c : State) (t k : ℕ) (v : k ≡ audit m c) where
 
 -- EXPLAIN
 
-module _ (m : Lent) (c : State) (a b : ℕ) (d : Ready m c) where
-  pub can-here : (t : ℕ) (x : Bool) → x ≡ within 3 (term_in (terms_view m.terms c.terms) t).kind → not x ≡ false
-      → (within c.terms t ≡ true) × Closed (class_up (terms_view m.terms c.terms)) c.terms
-  can-here t x e h = (term-within m c t (string-term (store_of m c) t (sym e ∙ not-false x h)), ready_roots m c d.audited.classed)
-
-  module _ (x : Bool) (e : x ≡ is_string (store_of m c) a) where
-    pub can-not-first : not x ≡ true → false ≡ explain_arguments a b (store_of m c)
-    can-not-first h = sym (left_false _ _ (left_false _ _ (sym e ∙ not-true x h)))
-
-    module _ (h : not x ≡ false) (y : Bool) (f : y ≡ is_string (store_of m c) b) where
-      pub can-not-second : not y ≡ true → false ≡ explain_arguments a b (store_of m c)
-      can-not-second g = sym (left_false _ _ (right-false (is_string (store_of m c) a) _ (sym f ∙ not-true y g)))
-
-      pub can-classes : not y ≡ false → (p q : ℕ) → p ≡ root_in (terms_view m.terms c.terms) a → q ≡ root_in (terms_view m.terms c.terms) b
-          → eqb p q ≡ explain_arguments a b (store_of m c)
-      can-classes g p q i j = sym (rw (sym e ∙ not-false x h, sym f ∙ not-false y g, ← i, ← j))
-
 -- the reasons added, each with its edge
 labelled : (s s' : Store) → {a b : ℕ} → Gave s s' a b → Every (Labels s) (added_to s s')
 labelled s s' g =
     rw (ap (λ (x : Store). x.reasons) g.added.is, drop-append_seam s.reasons g.added.more)
     g.causes
 
-module _ (m : Lent) (c : State) (a b k : ℕ) (v : k ≡ audit m c) where
-  pub explain_unready : (k ≡ 0 → ⊥) → PublicExplain a b m m c (stop k)
-  explain_unready d = record {
-    is = call_unready (explain_arguments a b) (explain a b) m c k v d;
-    worth = λ s' e. let y : ◌≡◌ {A = ℕ} 0 1 = cc in absurd (omega arith);
-    once = λ s' e. let y : ◌≡◌ {A = ℕ} 0 1 = cc in absurd (omega arith);
-    edges = λ s' e. let y : ◌≡◌ {A = ℕ} 0 1 = cc in absurd (omega arith);
-    full = λ j e h. let y : k ≡ j = cc in absurd (h (subst writes_nothing y (audit-idle m c k v)));
-  }
+-- the audit's refusal is handed on
+pub explain_unready : (m : Lent) (c : State) (a b : ℕ) (u : Refusal) → number u ≡ audit m c → PublicExplain a b m m c (stop (number u))
+explain_unready m c a b u v = record {
+  is = call_refused (explain_arguments a b) (explain a b) m c u v;
+  worth = λ s' e. let y : ◌≡◌ {A = ℕ} 0 1 = cc in absurd (omega arith);
+  once = λ s' e. let y : ◌≡◌ {A = ℕ} 0 1 = cc in absurd (omega arith);
+  edges = λ s' e. let y : ◌≡◌ {A = ℕ} 0 1 = cc in absurd (omega arith);
+  full = λ j e h. let y : number u ≡ j = cc in absurd (h (subst writes_nothing y (audit-idle m c (number u) v)));
+}
 
+module _ (m : Lent) (c : State) (a b k : ℕ) (v : k ≡ audit m c) where
   module _ (z : k ≡ 0) (x : Bool) (e : x ≡ explain_arguments a b (store_of m c)) where
     pub explain-unfit : not x ≡ true → PublicExplain a b m m c (stop 5)
     explain-unfit h = record {

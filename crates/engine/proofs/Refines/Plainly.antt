@@ -1,40 +1,34 @@
 -- Each way through `plain_edge` and `explain_plain`, and the walk that starts anew. The laws of a walk with a table hold for any
 -- table, so one that the code does not make will do: zeros, and then the walk's own pair noted.
+use Rattle.std.specs.Prelude.{Some, None, Result, Ok, Err}
+use Rattle.records.specs.declared.refusal.Refusal.{Refusal}
 use mathlib.Core.Path.{◌≡◌, refl, sym, ◌∙◌}
 use mathlib.Core.Bool.{Bool, true, false}
 use mathlib.Core.List.{List, []}
-use mathlib.Core.Logic.{◌⊎◌}
 use Prim.Native.Nat.{ℕ, ◌+◌, ◌≤◌}
 use native.Mathlib.Omega.{arith}
 use lib.ListN.{length, replicate, length-replicate}
 use Rattle.records.specs.View.{pairs_view, reason_room}
-use Rattle.engine.specs.declared.Walked.{Walked}
-use Rattle.engine.specs.declared.Plain.TheVariants.{Ended, Congruence}
 use Rattle.engine.specs.Explain.{walked}
 use Rattle.engine.specs.Working.Seen.{place, seen_at, Noted}
 use Rattle.engine.specs.Working.Walks.{Together, Walkable, Walks, Gives, Explained, Explainable, Plainly, PlainEdge, PlainPath, PlainPair}
 use Rattle.engine.proofs.Refines.Bits.{note_set}
-use Rattle.engine.proofs.Refines.Turns.{standing_on, fewer, stays-room, Labelled, edge-gives, edge-nothing}
+use Rattle.engine.proofs.Refines.Turns.{standing_on, stays-kept, stays-room, Labelled, edge-gives, edge-nothing}
 use Rattle.engine.proofs.Refines.Rises.{pair_same, Rising, rising_stop, rising_done}
 use Rattle.engine.proofs.Refines.Starts.{none_noted, explained-by, explainable_walk}
 
-module _ {Done : Walked → Type 0} {reasons reasons' : List ℕ} {count : ℕ} (h : pairs_view reasons' count ≡ pairs_view reasons count) where
-  plainly-ended : {w : Walked} → Done w → Plainly Done reasons reasons' count (Ended w)
-  plainly-ended {w} d = record { kept = h; done = λ r i. let z : w ≡ r = cc in rw z at d }
-
-  pub plainly-met : Plainly Done reasons reasons' count Congruence
-  plainly-met = record { kept = h; done = λ r i. let z : ◌≡◌ {A = ℕ} 0 1 = cc in absurd (omega arith) }
-
 -- AN EDGE
 
-pub plain-gives : (terms reasons reasons' : List ℕ) {places places' : List ℕ} (node j kind value count : ℕ) {slot : ℕ} (r : Walked) → (j ≡ 1) ⊎ (j ≡ 2) → kind ≡ j
-    → Labelled terms node kind value → Gives reasons reasons' places places' count j value slot r → Plainly (PlainEdge terms reasons reasons' node count) reasons reasons' count (Ended r)
-plain-gives terms reasons reasons' node j kind value count r two i l g =
-    plainly-ended g.kept (λ cells tab n k. edge-gives terms cells tab tab reasons reasons' n k node j kind value count r two i l g (λ seen m. m))
+module _ (terms reasons reasons' : List ℕ) {places places' : List ℕ} (node kind value count : ℕ) {slot : ℕ} (two : (1 ≤ kind) × (kind ≤ 2)) (l : Labelled terms node kind value) where
+  pub plain-given : {d : ℕ} → Gives reasons reasons' places places' count kind value slot (Ok d) → Plainly (PlainEdge terms reasons reasons' node count) reasons reasons' count (Ok (Some d))
+  plain-given {d} g = record { kept = g.kept; done = λ cells tab n k. edge-gives terms cells tab tab reasons reasons' n k node kind value count (Ok d) two l g (λ seen m. m) }
+
+  pub plain-refused : {e : Refusal} → Gives reasons reasons' places places' count kind value slot (Err e) → Plainly (PlainEdge terms reasons reasons' node count) reasons reasons' count (Err e)
+  plain-refused {e} g = record { kept = g.kept; done = λ cells tab n k. edge-gives terms cells tab tab reasons reasons' n k node kind value count (Err e) two l g (λ seen m. m) }
 
 pub plain-nothing : (terms reasons : List ℕ) (node kind value count : ℕ) → kind ≡ 4 → Labelled terms node kind value
-    → Plainly (PlainEdge terms reasons reasons node count) reasons reasons count (Ended (record { code = 0; count = count }))
-plain-nothing terms reasons node kind value count i l = plainly-ended refl (λ cells tab n k. edge-nothing terms cells tab reasons n k node kind value count i l)
+    → Plainly (PlainEdge terms reasons reasons node count) reasons reasons count (Ok (Some count))
+plain-nothing terms reasons node kind value count i l = record { kept = refl; done = λ cells tab n k. edge-nothing terms cells tab reasons n k node kind value count i l }
 
 -- A PATH
 
@@ -45,41 +39,43 @@ Walking terms reasons reasons' n a b m x late c c' = (cells tab : List ℕ) (k :
 pub plain_walkable : (terms reasons : List ℕ) (n a b : ℕ) {c : ℕ} → n ≤ 512 → (p : PlainPair terms reasons n a b c) → Walkable terms p.cells (replicate 4634 0) reasons n p.k c (λ s. Together s (a, b))
 plain_walkable terms reasons n a b h p = explainable_walk terms p.cells reasons n p.k a b 512 4634 h (omega arith) (omega arith) p.can
 
-pub plain-same : (terms reasons : List ℕ) (n a b c : ℕ) → a ≡ b → Plainly (PlainPath terms reasons reasons n a b c) reasons reasons c (Ended (record { code = 0; count = c }))
-plain-same terms reasons n a b c i = plainly-ended refl (λ cells k. explained-by terms cells _ reasons reasons n k a b c 0 _ (pair_same terms cells (replicate 0 0) reasons n k a b c i))
+pub plain-same : (terms reasons : List ℕ) (n a b c : ℕ) → a ≡ b → Plainly (PlainPath terms reasons reasons n a b c) reasons reasons c (Ok (Some c))
+plain-same terms reasons n a b c i = record {
+  kept = refl;
+  done = λ cells k. explained-by terms cells _ reasons reasons n k a b c 0 (Ok c) (pair_same terms cells (replicate 0 0) reasons n k a b c i);
+}
 
 -- the reasons given so far fit
 pub plain-room : {terms reasons reasons₁ : List ℕ} {n a b m x c c₁ : ℕ} {late : Bool} → PlainPair terms reasons n a b c → Walking terms reasons reasons₁ n a b m x late c c₁ → c₁ ≤ reason_room reasons₁
 plain-room p g = stays-room (g [] [] 0).stays p.can.roomy
 
 -- a walk over any table that lacks the pair, and has it noted, is an explanation: a table of zeros lacks every pair
-explained-alone : {terms cells reasons reasons' : List ℕ} {n k a b c : ℕ} {r : Walked}
+explained-alone : {terms cells reasons reasons' : List ℕ} {n k a b c : ℕ} (r : Result ℕ Refusal)
     → ((tab tab₁ : List ℕ) → false ≡ seen_at tab (place a b) → Noted tab tab₁ (place a b) → Walks (walked (a, b)) (λ s. Together s (a, b)) terms cells tab tab₁ reasons reasons' n k c r)
     → Explained terms cells reasons reasons' n k a b c r
-explained-alone {n = n} {a = a} {b = b} f =
+explained-alone {n = n} {a = a} {b = b} r f =
     let at = place a b in
     let zeros : List ℕ = replicate (at + 1) 0 in
     let none = none_noted (at + 1) at in
-    explained-by _ _ _ _ _ _ _ _ _ _ (at + 1) _ (f zeros _ (sym none) (note_set zeros at (rw (length-replicate {A = ℕ} (at + 1) 0) (omega arith)) none))
+    explained-by _ _ _ _ _ _ _ _ _ _ (at + 1) r (f zeros _ (sym none) (note_set zeros at (rw (length-replicate {A = ℕ} (at + 1) 0) (omega arith)) none))
 
 module _ (terms reasons reasons₁ : List ℕ) (n a b m x c c₁ : ℕ) (late : Bool) (apart : a ≡ b → ⊥) (g : Walking terms reasons reasons₁ n a b m x late c c₁) where
-  pub plain_done : late ≡ true → x ≡ m → Plainly (PlainPath terms reasons reasons₁ n a b c) reasons reasons₁ c (Ended (record { code = 0; count = c₁ }))
-  plain_done z u =
-      plainly-ended (g [] [] 0).stays.kept
-      (λ cells k. explained-alone (λ tab tab₁ j d. rising_done terms cells tab tab₁ reasons n k a b c _ apart false refl j refl d tab₁ reasons₁ m x c₁ late (g cells tab₁ k) z u))
+  pub plain_done : late ≡ true → x ≡ m → Plainly (PlainPath terms reasons reasons₁ n a b c) reasons reasons₁ c (Ok (Some c₁))
+  plain_done z u = record {
+    kept = (g [] [] 0).stays.kept;
+    done = λ cells k. explained-alone (Ok c₁) (λ tab tab₁ j d. rising_done terms cells tab tab₁ reasons n k a b c _ apart false refl j refl d tab₁ reasons₁ m x c₁ late (g cells tab₁ k) z u);
+  }
 
   module _ (reasons₂ : List ℕ) where
-    plain-kept : pairs_view reasons₂ c₁ ≡ pairs_view reasons₁ c₁ → pairs_view reasons₂ c ≡ pairs_view reasons c
-    plain-kept h = let s = (g [] [] 0).stays in fewer reasons₁ reasons₂ c c₁ s.more h ∙ s.kept
+    pub plain-met : pairs_view reasons₂ c₁ ≡ pairs_view reasons₁ c₁ → Plainly (PlainPath terms reasons reasons₂ n a b c) reasons reasons₂ c (Ok None)
+    plain-met h = record { kept = stays-kept _ (g [] [] 0).stays h; done = tt }
 
-    pub plain-met : pairs_view reasons₂ c₁ ≡ pairs_view reasons₁ c₁ → Plainly (PlainPath terms reasons reasons₂ n a b c) reasons reasons₂ c Congruence
-    plain-met h = plainly-met (plain-kept h)
-
-    pub plain-stop : (x ≡ m → ⊥) → length reasons₂ ≡ length reasons₁ → (r : Walked) → PlainEdge terms reasons₁ reasons₂ x c₁ r → (r.code ≡ 0 → ⊥)
-        → Plainly (PlainPath terms reasons reasons₂ n a b c) reasons reasons₂ c (Ended r)
-    plain-stop u l r w z =
-        plainly-ended (plain-kept (w [] [] 0 0).kept)
-        (λ cells k. explained-alone (λ tab tab₁ j d. rising_stop terms cells tab tab₁ reasons n k a b c _ apart false refl j refl d tab₁ reasons₁ m x late c₁ (g cells tab₁ k) u tab₁ reasons₂ r refl l (w cells tab₁ n k) z))
+    pub plain-stop : (x ≡ m → ⊥) → length reasons₂ ≡ length reasons₁ → {e : Refusal} → PlainEdge terms reasons₁ reasons₂ x c₁ (Err e)
+        → Plainly (PlainPath terms reasons reasons₂ n a b c) reasons reasons₂ c (Err e)
+    plain-stop u l {e} w = record {
+      kept = stays-kept _ (g [] [] 0).stays (w [] [] 0 0).kept;
+      done = λ cells k. explained-alone (Err e) (λ tab tab₁ j d. rising_stop terms cells tab tab₁ reasons n k a b c _ apart false refl j refl d tab₁ reasons₁ m x late c₁ (g cells tab₁ k) u tab₁ reasons₂ refl l (w cells tab₁ n k));
+    }
 
 -- ANEW
 
@@ -88,6 +84,6 @@ module _ (terms cells reasons reasons₁ : List ℕ) (n k a b c : ℕ) (l : leng
   pub explainable_on : Explainable terms cells reasons n k a b c → Explainable terms cells reasons₁ n k a b c
   explainable_on e = record { standing = standing_on reasons₁ l e.standing; together = e.together; roomy = let h = e.roomy in omega arith }
 
-  pub explained_anew : pairs_view reasons₁ c ≡ pairs_view reasons c → (reasons' : List ℕ) (r : Walked) → Explained terms cells reasons₁ reasons' n k a b c r
+  pub explained_anew : pairs_view reasons₁ c ≡ pairs_view reasons c → (reasons' : List ℕ) (r : Result ℕ Refusal) → Explained terms cells reasons₁ reasons' n k a b c r
       → Explained terms cells reasons reasons' n k a b c r
   explained_anew h reasons' r x = record { kept = x.kept ∙ h; comes = λ e q. rw h at (x.comes (standing_on reasons₁ l e) q) }

@@ -1,4 +1,5 @@
 -- Each way through `explain_rec`: a pair seen or not, and the edges of its path in turn.
+use Rattle.std.specs.Prelude.{Result, Ok, Err}
 use mathlib.Core.Path.{◌≡◌, refl, sym, ap, ◌∙◌}
 use mathlib.Core.Bool.{Bool, true, false, ◌||◌}
 use mathlib.Core.List.Memᴰ
@@ -10,32 +11,37 @@ use native.Mathlib.Decide.{ℕ_discrete}
 use lib.ListN.{length}
 use lib.Dec.{eqb}
 use borrow.Author.Tests.{eqb-true, eq-eqb, ne_eqb}
+use Rattle.records.specs.declared.refusal.Refusal.{Refusal}
+use Rattle.records.specs.Refusal.{number}
 use Rattle.records.specs.Lists.{any, up_to, Every}
-use Rattle.records.specs.Store.{Term, Store, term, is_term, within, path, path_in, forest_up, top_in, above_by, above_in, nearest_in, term_in}
+use Rattle.records.specs.Store.{Term, Store, stop, term, is_term, within, path, path_in, forest_up, top_in, above_by, above_in, nearest_in, term_in}
 use Rattle.records.specs.View.{term_at, terms_view, pairs_view}
 use Rattle.records.specs.Make.{with_reasons, ordered, same_pair}
 use Rattle.records.specs.Working.Audited.{Pathed}
 use Rattle.records.proofs.Lists.{or_left, or_right, clash, both_left, both_right, both_true, within-high, table-length, every_both}
 use Rattle.records.proofs.Climbs.{above_root, above_is, classed_tops}
-use Rattle.engine.specs.declared.Walked.{Walked}
 use Rattle.engine.specs.Explain.{Seen, was_seen, each, edge, highest, height, walked}
 use Rattle.engine.specs.Working.Seen.{place, seen_at, Noted, Tables}
-use Rattle.engine.specs.Working.Walks.{Standing, Together, Edge, Walkable, Shows, came, Walks, ahead}
+use Rattle.engine.specs.Working.Walks.{Standing, Together, Edge, Walkable, Shows, Walks, ahead}
 use Rattle.engine.proofs.Refines.Bits.{place-pair, place-small}
 use Rattle.engine.proofs.Fits.{highest-high}
 use Rattle.engine.proofs.Paths.{nearest, path_edges}
 use Rattle.engine.proofs.Walk.{walked_same}
-use Rattle.engine.proofs.Refines.Turns.{standing-count, standing-within, standing-term, standing_on, Left, left-turn, left-stopped, left-none, Stays, stays-none, stays_then, stays-room, every_head, every_tail, wide-on}
+use Rattle.engine.proofs.Refines.Turns.{standing-count, standing-within, standing-term, standing_on, Left, left-turn, left-stopped, left-none, Stays, stays-none, stays_then, stays-kept, stays-room, every_head, every_tail, wide-on}
 
 -- A PAIR
 
 -- a term and itself: there is nothing to walk
-pub pair_same : (terms cells tab reasons : List ℕ) (n k a b c : ℕ) → a ≡ b → Walks (walked (a, b)) (λ s. Together s (a, b)) terms cells tab tab reasons reasons n k c (record { code = 0; count = c })
+pub pair_same : (terms cells tab reasons : List ℕ) (n k a b c : ℕ) → a ≡ b → Walks (walked (a, b)) (λ s. Together s (a, b)) terms cells tab tab reasons reasons n k c (Ok c)
 pair_same terms cells tab reasons n k a b c i = record {
   kept = refl;
   more = omega arith;
   fits = λ h. h;
-  shows = λ e q seen m. came refl seen m (walked_same e.store e.audited (a, b) q seen (pairs_view reasons c) ∙ rw (or_left (eqb a b) (was_seen (a, b) seen) (eq-eqb a b i)));
+  shows = λ e q seen m. record {
+    seen = seen;
+    tabled = m;
+    is = walked_same e.store e.audited (a, b) q seen (pairs_view reasons c) ∙ rw (or_left (eqb a b) (was_seen (a, b) seen) (eq-eqb a b i));
+  };
 }
 
 module _ {terms cells reasons : List ℕ} {n k a b : ℕ} (e : Standing terms cells reasons n k) (q : Together e.store (a, b)) where
@@ -46,14 +52,18 @@ module _ {terms cells reasons : List ℕ} {n k a b : ℕ} (e : Standing terms ce
   right-low = within-high n b (standing-within e b q.right)
 
 pub pair-seen : (terms cells tab reasons : List ℕ) (n k a b c at : ℕ) (v : Bool) → at ≡ place a b → v ≡ seen_at tab at → v ≡ true
-    → Walks (walked (a, b)) (λ s. Together s (a, b)) terms cells tab tab reasons reasons n k c (record { code = 0; count = c })
+    → Walks (walked (a, b)) (λ s. Together s (a, b)) terms cells tab tab reasons reasons n k c (Ok c)
 pair-seen terms cells tab reasons n k a b c at v i j h = record {
   kept = refl;
   more = omega arith;
   fits = λ h. h;
   shows = λ e q seen m.
       let w : was_seen (a, b) seen ≡ true = sym (m.says a b (left-low e q) (right-low e q)) ∙ ap (seen_at tab) (sym i) ∙ sym j ∙ h in
-      came refl seen m (walked_same e.store e.audited (a, b) q seen (pairs_view reasons c) ∙ rw (or_right (eqb a b) (was_seen (a, b) seen) w));
+      record {
+        seen = seen;
+        tabled = m;
+        is = walked_same e.store e.audited (a, b) q seen (pairs_view reasons c) ∙ rw (or_right (eqb a b) (was_seen (a, b) seen) w);
+      };
 }
 
 pub place_inside : (terms cells tab reasons : List ℕ) (n k a b at : ℕ) {c : ℕ} → Walkable terms cells tab reasons n k c (λ s. Together s (a, b)) → at ≡ place a b → at < 32 * length tab
@@ -184,41 +194,41 @@ module _ (terms cells tab tab₁ reasons reasons₁ : List ℕ) (n k a b m x : �
     pub rising-on : On e.store (a, b) x
     rising-on = every_head (rw rising_step at (g.edges e q))
 
-  module _ (late : Bool) (g : Rising terms cells tab tab₁ reasons reasons₁ n k a b m x late c c₁) (d : x ≡ m → ⊥) (tab₂ reasons₂ : List ℕ) (r : Walked)
-      (t : length tab₂ ≡ length tab₁) (l : length reasons₂ ≡ length reasons₁) (w : Walks (edge walked x) (λ s. Edge s x) terms cells tab₁ tab₂ reasons₁ reasons₂ n k c₁ r) where
-    rising_stays : Stays tab tab₂ reasons reasons₂ c r.count
-    rising_stays = stays_then g.stays t l w.kept w.more w.fits
-
+  module _ (late : Bool) (g : Rising terms cells tab tab₁ reasons reasons₁ n k a b m x late c c₁) (d : x ≡ m → ⊥) (tab₂ reasons₂ : List ℕ)
+      (t : length tab₂ ≡ length tab₁) (l : length reasons₂ ≡ length reasons₁) where
     rising-left : (e : Standing terms cells reasons n k) (q : Together e.store (a, b)) (seen : Seen) → Tables n tab seen
         → Left (edge walked) e.store n tab₁ reasons₁ c₁ (x ∷ ahead e.store.terms m b late (forest_up e.store.terms x)) (each (edge walked) (path e.store a b) seen (with_reasons e.store (pairs_view reasons c)))
     rising-left e q seen v = rw (rising_step late g d e q) at (g.left e q seen v)
 
-    rising-shows : (e : Standing terms cells reasons n k) → Together e.store (a, b) → (seen : Seen) → Tables n tab₁ seen
+    rising-shows : (r : Result ℕ Refusal) → Walks (edge walked x) (λ s. Edge s x) terms cells tab₁ tab₂ reasons₁ reasons₂ n k c₁ r
+        → (e : Standing terms cells reasons n k) → Together e.store (a, b) → (seen : Seen) → Tables n tab₁ seen
         → Shows e.store n tab₂ reasons₂ r (edge walked x seen (with_reasons e.store (pairs_view reasons₁ c₁)))
-    rising-shows e q seen v = w.shows (standing_on reasons₁ g.stays.long e) (rising-on late g d e q).edge_is seen v
+    rising-shows r w e q seen v = w.shows (standing_on reasons₁ g.stays.long e) (rising-on late g d e q).edge_is seen v
 
-    pub rising_turn : r.code ≡ 0 → (y : ℕ) → y ≡ (term_at terms x).forest_parent → Rising terms cells tab tab₂ reasons reasons₂ n k a b m y late c r.count
-    rising_turn i y j = record {
-      stays = rising_stays;
+    pub rising_turn : {c₂ : ℕ} → Walks (edge walked x) (λ s. Edge s x) terms cells tab₁ tab₂ reasons₁ reasons₂ n k c₁ (Ok c₂)
+        → (y : ℕ) → y ≡ (term_at terms x).forest_parent → Rising terms cells tab tab₂ reasons reasons₂ n k a b m y late c c₂
+    rising_turn {c₂} w y j = record {
+      stays = stays_then g.stays t l w.kept w.more w.fits;
       here = λ e q. rw (parent e q) at (e.audited.classed.forest_parents x (g.here e q));
       above = λ e q. rw (parent e q) at (up-on e.store.terms x m (e.audited.classed.forest_ends x (g.here e q)) (g.above e q) d);
       beside = g.beside;
       edges = λ e q. rw (parent e q) at (every_tail (rw (rising_step late g d e q) at (g.edges e q)));
-      left = λ e q seen v. let f = rising-left e q seen v in rw (parent e q) at (left-turn (edge walked) e.store n f (rising-shows e q f.seen f.tabled) i);
+      left = λ e q seen v. let f = rising-left e q seen v in rw (parent e q) at (left-turn (edge walked) e.store n f (rising-shows (Ok c₂) w e q f.seen f.tabled));
     }
       where
         parent : (e : Standing terms cells reasons n k) → Together e.store (a, b) → (term e.store x).forest_parent ≡ y
         parent e q = ap (λ (z : Term). z.forest_parent) (standing-term e x (g.here e q)) ∙ sym j
 
-    rising-refused : (r.code ≡ 0 → ⊥) → (e : Standing terms cells reasons n k) → Together e.store (a, b) → (seen : Seen) → Tables n tab seen
-        → Shows e.store n tab₂ reasons₂ r (each (edge walked) (path e.store a b) seen (with_reasons e.store (pairs_view reasons c)))
-    rising-refused i e q seen v = let f = rising-left e q seen v in left-stopped (edge walked) e.store n f (rising-shows e q f.seen f.tabled) i
+    rising-refused : {u : Refusal} → Walks (edge walked x) (λ s. Edge s x) terms cells tab₁ tab₂ reasons₁ reasons₂ n k c₁ (Err u)
+        → (e : Standing terms cells reasons n k) → Together e.store (a, b) → (seen : Seen) → Tables n tab seen
+        → each (edge walked) (path e.store a b) seen (with_reasons e.store (pairs_view reasons c)) ≡ stop (number u)
+    rising-refused {u} w e q seen v = let f = rising-left e q seen v in left-stopped (edge walked) e.store n f (rising-shows (Err u) w e q f.seen f.tabled)
 
 -- THE WHOLE WALK OF A PAIR
 
 module _ (terms cells tab tab₁ reasons : List ℕ) (n k a b c at : ℕ) (apart : a ≡ b → ⊥) (v : Bool) (i : at ≡ place a b) (j : v ≡ seen_at tab at) (h : v ≡ false) (d : Noted tab tab₁ at) where
   -- a pair not seen before does what its path's edges do in turn
-  pair-shows : (tab' reasons' : List ℕ) (r : Walked) (e : Standing terms cells reasons n k) (q : Together e.store (a, b)) (seen : Seen) → Tables n tab seen
+  pair-shows : (tab' reasons' : List ℕ) (r : Result ℕ Refusal) (e : Standing terms cells reasons n k) (q : Together e.store (a, b)) (seen : Seen) → Tables n tab seen
       → ((seen₁ : Seen) → Tables n tab₁ seen₁ → Shows e.store n tab' reasons' r (each (edge walked) (path e.store a b) seen₁ (with_reasons e.store (pairs_view reasons c))))
       → Shows e.store n tab' reasons' r (walked (a, b) seen (with_reasons e.store (pairs_view reasons c)))
   pair-shows tab' reasons' r e q seen m f =
@@ -228,26 +238,23 @@ module _ (terms cells tab tab₁ reasons : List ℕ) (n k a b c at : ℕ) (apart
       rw z (f (ordered a b ∷ seen) (tables_more n tab tab₁ a b seen (left-low e q) (right-low e q) (rw i at d) m))
 
   pub rising_stop : (tab₁' reasons₁ : List ℕ) (m x : ℕ) (late : Bool) (c₁ : ℕ) (g : Rising terms cells tab₁ tab₁' reasons reasons₁ n k a b m x late c c₁) → (x ≡ m → ⊥)
-      → (tab₂ reasons₂ : List ℕ) (r : Walked) → length tab₂ ≡ length tab₁' → length reasons₂ ≡ length reasons₁
-      → Walks (edge walked x) (λ s. Edge s x) terms cells tab₁' tab₂ reasons₁ reasons₂ n k c₁ r → (r.code ≡ 0 → ⊥)
-      → Walks (walked (a, b)) (λ s. Together s (a, b)) terms cells tab tab₂ reasons reasons₂ n k c r
-  rising_stop tab₁' reasons₁ m x late c₁ g u tab₂ reasons₂ r t l w z = record {
-    kept = on.kept;
-    more = on.more;
-    fits = on.fits;
-    shows = λ e q seen v₁. pair-shows tab₂ reasons₂ r e q seen v₁ (rising-refused terms cells tab₁ tab₁' reasons reasons₁ n k a b m x c c₁ late g u tab₂ reasons₂ r t l w z e q);
+      → (tab₂ reasons₂ : List ℕ) {u : Refusal} → length tab₂ ≡ length tab₁' → length reasons₂ ≡ length reasons₁
+      → Walks (edge walked x) (λ s. Edge s x) terms cells tab₁' tab₂ reasons₁ reasons₂ n k c₁ (Err u)
+      → Walks (walked (a, b)) (λ s. Together s (a, b)) terms cells tab tab₂ reasons reasons₂ n k c (Err u)
+  rising_stop tab₁' reasons₁ m x late c₁ g z tab₂ reasons₂ {u} t l w = record {
+    kept = stays-kept _ g.stays w.kept;
+    more = tt;
+    fits = tt;
+    shows = λ e q seen v₁. pair-shows tab₂ reasons₂ (Err u) e q seen v₁ (rising-refused terms cells tab₁ tab₁' reasons reasons₁ n k a b m x c c₁ late g z tab₂ reasons₂ t l w e q);
   }
-    where
-      on : Stays tab₁ tab₂ reasons reasons₂ c r.count
-      on = rising_stays terms cells tab₁ tab₁' reasons reasons₁ n k a b m x c c₁ late g u tab₂ reasons₂ r t l w
 
   pub rising_done : (tab₂ reasons₂ : List ℕ) (m x c₂ : ℕ) (late : Bool) → Rising terms cells tab₁ tab₂ reasons reasons₂ n k a b m x late c c₂ → late ≡ true → x ≡ m
-      → Walks (walked (a, b)) (λ s. Together s (a, b)) terms cells tab tab₂ reasons reasons₂ n k c (record { code = 0; count = c₂ })
+      → Walks (walked (a, b)) (λ s. Together s (a, b)) terms cells tab tab₂ reasons reasons₂ n k c (Ok c₂)
   rising_done tab₂ reasons₂ m x c₂ true g z u = record {
     kept = g.stays.kept;
     more = g.stays.more;
     fits = g.stays.fits;
-    shows = λ e q seen v₁. pair-shows tab₂ reasons₂ _ e q seen v₁ (λ seen₁ v₂. left-none (edge walked) e.store n (rw (up-here e.store.terms x m u) at (g.left e q seen₁ v₂)));
+    shows = λ e q seen v₁. pair-shows tab₂ reasons₂ (Ok c₂) e q seen v₁ (λ seen₁ v₂. left-none (edge walked) e.store n (rw (up-here e.store.terms x m u) at (g.left e q seen₁ v₂)));
   }
   rising_done tab₂ reasons₂ m x c₂ false g z u = clash z refl
 

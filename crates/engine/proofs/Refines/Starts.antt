@@ -1,4 +1,5 @@
 -- Each way through `explain_unchecked`: a walk that starts from no pair seen, over the lent store.
+use Rattle.std.specs.Prelude.{Result, Ok, Err}
 use mathlib.Core.Path.{◌≡◌, refl, sym, ap, ◌∙◌}
 use mathlib.Core.Bool.{true, false, ◌&&◌}
 use mathlib.Core.List.{List, []}
@@ -7,10 +8,9 @@ use native.Mathlib.Omega.{arith}
 use lib.ListN.{length, replicate, length-replicate}
 use lib.Dec.{ltb}
 use Rattle.records.specs.Lists.{any, all, table}
-use Rattle.records.specs.Store.{Store, ok, stop, and_then, is_string}
+use Rattle.records.specs.Store.{Store, ok, and_then, is_string}
 use Rattle.records.specs.declared.State.{State}
-use Rattle.records.specs.declared.Added.{Added}
-use Rattle.records.specs.declared.Added.TheVariants.{Counts, Refused}
+use Rattle.records.specs.declared.refusal.Refusal.{Refusal}
 use Rattle.records.specs.Calls.{added}
 use Rattle.records.specs.Working.Doing.{Working}
 use Rattle.records.specs.View.{Lent, lent, store_of, pairs_view, reasons_at}
@@ -23,10 +23,9 @@ use Rattle.records.proofs.IndexLaws.{same_none}
 use Rattle.records.proofs.IndexStores.{keeps-terms, records_beside, indexed_records}
 use Rattle.records.proofs.Passed.{ready-beside}
 use Rattle.records.proofs.Doing.{working_stopped}
-use Rattle.engine.specs.declared.Walked.{Walked}
 use Rattle.engine.specs.Explain.{was_seen, walked, explain, explain_arguments, emptied, gives_reason, is_reasoned}
 use Rattle.engine.specs.Working.Seen.{place, bit, seen_at, Tables}
-use Rattle.engine.specs.Working.Walks.{Standing, Together, Walkable, Shows, came, refused, Walks, Comes, explained, stopped, Explained, Explainable}
+use Rattle.engine.specs.Working.Walks.{Standing, Together, Walkable, Shows, Walks, explained, Explained, Explainable}
 use Rattle.engine.proofs.Refines.Bits.{triangle-within}
 use Rattle.engine.proofs.Sound.{class-together, explain_gave}
 
@@ -45,15 +44,15 @@ none-tabled : (n w : ℕ) → Tables n (replicate w 0) []
 unfolding was_seen any
 none-tabled n w = record { says = λ a b ha hb. none_noted w (place a b) }
 
-pub explained-by : (terms cells tab' reasons reasons' : List ℕ) (n k a b c w : ℕ) (r : Walked)
+pub explained-by : (terms cells tab' reasons reasons' : List ℕ) (n k a b c w : ℕ) (r : Result ℕ Refusal)
     → Walks (walked (a, b)) (λ s. Together s (a, b)) terms cells (replicate w 0) tab' reasons reasons' n k c r → Explained terms cells reasons reasons' n k a b c r
 unfolding explain
-explained-by terms cells tab' reasons reasons' n k a b c w r g = record { kept = g.kept; comes = λ e q. go e (g.shows e q [] (none-tabled n w)) }
+explained-by terms cells tab' reasons reasons' n k a b c w r g = record { kept = g.kept; comes = λ e q. go r e (g.shows e q [] (none-tabled n w)) }
   where
-    go : (e : Standing terms cells reasons n k) → Shows e.store n tab' reasons' r (walked (a, b) [] (with_reasons e.store (pairs_view reasons c)))
-        → Comes e.store reasons' r (explain a b (with_reasons e.store (pairs_view reasons c)))
-    go e (came h seen m i) = explained h (ap (and_then (λ v. λ s. ok s tt)) i)
-    go e (refused h i) = stopped h (ap (and_then (λ v. λ s. ok s tt)) i)
+    go : (r : Result ℕ Refusal) (e : Standing terms cells reasons n k) → Shows e.store n tab' reasons' r (walked (a, b) [] (with_reasons e.store (pairs_view reasons c)))
+        → explain a b (with_reasons e.store (pairs_view reasons c)) ≡ explained e.store reasons' r
+    go (Ok d) e v = ap (and_then (λ u. λ s. ok s tt)) v.is
+    go (Err u) e v = ap (and_then (λ u. λ s. ok s tt)) v
 
 pub explainable_walk : (terms cells reasons : List ℕ) (n k a b m w : ℕ) {c : ℕ} → n ≤ m → m ≤ 512 → 32 * (m + 1) + m * (m + 1) / 2 + m < 32 * w → Explainable terms cells reasons n k a b c
     → Walkable terms cells (replicate w 0) reasons n k c (λ s. Together s (a, b))
@@ -75,37 +74,28 @@ module _ (m : Lent) (c : State) where
         roomy = let l = d.sized.reason_limited in let r = d.sized.reason_room in omega arith;
       }
 
-  module _ (a b : ℕ) (d : Ready m c) (h : explain_arguments a b (store_of m c) ≡ true) (reasons' : List ℕ) (l : length reasons' ≡ length m.reasons) (r : Walked)
-      (x : Explained m.terms m.cells m.reasons reasons' c.terms c.cells a b c.reasons r) where
+  module _ (a b : ℕ) (d : Ready m c) (h : explain_arguments a b (store_of m c) ≡ true) (reasons' : List ℕ) (l : length reasons' ≡ length m.reasons) where
     store_after : (n : ℕ) → store_of (lent m.terms m.cells m.chars reasons' m.keys) (reasons_at c n) ≡ with_reasons (store_of m c) (pairs_view reasons' n)
     store_after n = rw l
 
-    still : store_of (lent m.terms m.cells m.chars reasons' m.keys) c ≡ store_of m c
-    still = store_after c.reasons ∙ ap (with_reasons (store_of m c)) x.kept
+    still : (r : Result ℕ Refusal) → Explained m.terms m.cells m.reasons reasons' c.terms c.cells a b c.reasons r → store_of (lent m.terms m.cells m.chars reasons' m.keys) c ≡ store_of m c
+    still r x = store_after c.reasons ∙ ap (with_reasons (store_of m c)) x.kept
 
-    pub explain_came : r.code ≡ 0 → (e : State) → e ≡ reasons_at c r.count → Working (explain a b) m (lent m.terms m.cells m.chars reasons' m.keys) c
-        (added (Counts e) (lent m.terms m.cells m.chars reasons' m.keys))
-    explain_came z e q =
-        let says = go (x.comes (standing_of_lem d) (explainable_of a b d h).together) in
+    pub explain_came : (n : ℕ) → Explained m.terms m.cells m.reasons reasons' c.terms c.cells a b c.reasons (Ok n) → (e : State) → e ≡ reasons_at c n
+        → Working (explain a b) m (lent m.terms m.cells m.chars reasons' m.keys) c (added (Ok e) (lent m.terms m.cells m.chars reasons' m.keys))
+    explain_came n x e q =
+        let says = x.comes (standing_of_lem d) (explainable_of a b d h).together ∙ ap (λ (s : Store). ok s tt) (sym (store_after n)) in
         rw q (record {
           says = says;
-          kept = keeps-terms still refl;
+          kept = keeps-terms (still (Ok n) x) refl;
           ready = λ f u i.
               let g = explain_gave (store_of m c) d.audited a b h _ u (says ∙ i) in
-              ready-beside d still refl g.audited (records_beside (one_store i) (store_after r.count));
+              ready-beside d (still (Ok n) x) refl g.audited (records_beside (one_store i) (store_after n));
         })
-      where
-        go : Comes (store_of m c) reasons' r (explain a b (store_of m c)) → explain a b (store_of m c) ≡ ok (store_of (lent m.terms m.cells m.chars reasons' m.keys) (reasons_at c r.count)) tt
-        go (explained i e) = e ∙ ap (λ (s : Store). ok s tt) (sym (store_after r.count))
-        go (stopped i e) = absurd (i z)
 
-    pub explain_refused : (r.code ≡ 0 → ⊥) → Working (explain a b) m (lent m.terms m.cells m.chars reasons' m.keys) c
-        (added (Refused r.code) (lent m.terms m.cells m.chars reasons' m.keys))
-    explain_refused z = working_stopped (go (x.comes (standing_of_lem d) (explainable_of a b d h).together)) (keeps-terms still refl)
-      where
-        go : Comes (store_of m c) reasons' r (explain a b (store_of m c)) → explain a b (store_of m c) ≡ stop r.code
-        go (explained i e) = absurd (z i)
-        go (stopped i e) = e
+    pub explain_refused : (e : Refusal) → Explained m.terms m.cells m.reasons reasons' c.terms c.cells a b c.reasons (Err e)
+        → Working (explain a b) m (lent m.terms m.cells m.chars reasons' m.keys) c (added (Err e) (lent m.terms m.cells m.chars reasons' m.keys))
+    explain_refused e x = working_stopped (x.comes (standing_of_lem d) (explainable_of a b d h).together) (keeps-terms (still (Err e) x) refl)
 
 -- A LIST OF ITS OWN
 
@@ -140,15 +130,15 @@ module _ (m : Lent) (c : State) (a b : ℕ) where
     indexed = indexed_records (record { terms = refl; cells = refl; chars = refl }) (same_none m.terms _) d.indexed;
   })
 
-  module _ (e : State) (q : e ≡ reasons_at c 0) (l : List ℕ) (r : Added) (w : Working (explain a b) own (ownly l) e (added r (ownly l))) where
+  module _ (e : State) (q : e ≡ reasons_at c 0) (l : List ℕ) (r : Result State Refusal) (w : Working (explain a b) own (ownly l) e (added r (ownly l))) where
     own-says : is_reasoned (store_of m c) a b ≡ gives_reason (added r (ownly l))
     unfolding is_reasoned
     own-says = ap (λ (s : Store). gives_reason (explain a b s)) (sym own_is ∙ ap (store_of own) (sym q)) ∙ ap gives_reason w.says
 
-    pub own-counts : (f : State) → r ≡ Counts f → ltb 0 f.reasons ≡ is_reasoned (store_of m c) a b
+    pub own-counts : (f : State) → r ≡ Ok f → ltb 0 f.reasons ≡ is_reasoned (store_of m c) a b
     own-counts f i =
-        let z : gives_reason (added r (ownly l)) ≡ ltb 0 (length (pairs_view l f.reasons)) = ap (λ (x : Added). gives_reason (added x (ownly l))) i in
+        let z : gives_reason (added r (ownly l)) ≡ ltb 0 (length (pairs_view l f.reasons)) = ap (λ (x : Result State Refusal). gives_reason (added x (ownly l))) i in
         ap (ltb 0) (sym (table-length _ f.reasons)) ∙ sym z ∙ sym own-says
 
-    pub own-refused : (k : ℕ) → r ≡ Refused k → true ≡ is_reasoned (store_of m c) a b
-    own-refused k i = let z : gives_reason (added r (ownly l)) ≡ true = ap (λ (x : Added). gives_reason (added x (ownly l))) i in sym z ∙ sym own-says
+    pub own-refused : (k : Refusal) → r ≡ Err k → true ≡ is_reasoned (store_of m c) a b
+    own-refused k i = let z : gives_reason (added r (ownly l)) ≡ true = ap (λ (x : Result State Refusal). gives_reason (added x (ownly l))) i in sym z ∙ sym own-says

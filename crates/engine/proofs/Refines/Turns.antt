@@ -1,27 +1,31 @@
 -- Each way through `expand_edge`: an edge by its label, and the pairs of a congruence edge in turn.
-use mathlib.Core.Path.{◌≡◌, refl, sym, ap, subst, ◌∙◌}
-use mathlib.Core.Bool.{Bool, true, false}
+use Rattle.std.specs.Prelude.{Result, Ok, Err}
+use mathlib.Core.Path.{◌≡◌, refl, sym, ap, ◌∙◌}
+use mathlib.Core.Bool.{true, false}
 use mathlib.Core.List.{List, [], ◌∷◌}
 use mathlib.Core.Logic.{◌⊎◌, inl, inr, ⊎_elim}
 use Prim.Native.Nat.{ℕ, suc, ◌+◌, ◌*◌, ◌-◌, ◌/◌, ◌%◌, ◌≤◌, ◌<◌, min}
 use native.Mathlib.Omega.{arith}
-use lib.ListN.{length, length-append}
-use lib.Dec.{ltb}
-use borrow.Author.Tests.{ltb-true, lt-ltb}
+use lib.ListN.{length}
+use lib.Dec.{eqb, ltb}
+use borrow.Author.Tests.{ltb-true, eqb-true, eqb-false}
+use Rattle.records.specs.declared.refusal.Refusal.{Refusal}
+use Rattle.records.specs.declared.refusal.Refusal.TheVariants.{Classes}
+use Rattle.records.specs.declared.label.Label.{Label}
+use Rattle.records.specs.declared.label.Label.TheVariants.{Asserted, Interface}
+use Rattle.records.specs.Working.Label.{label_number}
 use Rattle.records.specs.Lists.{firsts, one_more, Every, and}
 use Rattle.records.specs.Store.{Term, Cell, Store, Out, ok, stop, Work, and_then, term, cell, count, is_term, is_edge, within, kind, parts, chain, chain_in, path_in, term_in, cell_in}
 use Rattle.records.specs.View.{term_at, cell_at, pair_at, terms_view, cells_view, pairs_view, reason_room, reason_limit}
 use Rattle.records.specs.Make.{with_reasons, is_listed, add_reason}
-use Rattle.records.specs.Working.Audited.{Audited, Label, asserted, interface, congruence, definitional, Next, last, later}
-use Rattle.records.specs.Working.Puts.{Pushed}
+use Rattle.records.specs.Working.Audited.{Audited, Label as EdgeLabel, asserted, interface, congruence, definitional, Next, last, later}
 use Rattle.records.proofs.Lists.{clash, decide, within_low, within-high, within-is, within-zero, table-length}
 use Rattle.records.proofs.Views.{term_is, cell-is, table_is}
 use Rattle.records.proofs.Chains.{chain-none, chain-is}
-use Rattle.engine.specs.declared.Walked.{Walked}
 use Rattle.engine.specs.Explain.{Seen, each, edge, highest, walked}
 use Rattle.engine.specs.Working.Seen.{triangle, place, bit, seen_at, Tables}
-use Rattle.engine.specs.Working.Listing.{Besides, Looked}
-use Rattle.engine.specs.Working.Walks.{Standing, Together, Edge, Wide, Walkable, Shows, came, refused, Walks, Gives}
+use Rattle.engine.specs.Working.Listing.{Besides}
+use Rattle.engine.specs.Working.Walks.{Standing, Together, Edge, Wide, Walkable, Came, Shows, Walks, Gives}
 use Rattle.engine.proofs.Fits.{Fit, fit-height, pairs-fit}
 use Rattle.engine.proofs.Refines.Bits.{place-small}
 
@@ -63,69 +67,16 @@ standing_on reasons' h e = record {
 pub fewer : (l l' : List ℕ) (m n : ℕ) → m ≤ n → pairs_view l' n ≡ pairs_view l n → pairs_view l' m ≡ pairs_view l m
 fewer l l' m n h e = Rattle.records.proofs.Lists.table_same _ _ m (λ i b. table_is _ _ n i e (omega arith))
 
--- ONE REASON
-
-pub gives-listed : (l places places' : List ℕ) (n kind value slot : ℕ) (b : Bool) → Looked l places places' n kind value slot b → b ≡ true
-    → Gives l l places places' n kind value slot (record { code = 0; count = n })
-gives-listed l places places' n kind value slot b i z = record {
-  kept = refl;
-  more = omega arith;
-  fits = λ h. h;
-  listed = λ y. (refl, refl);
-  given = λ y h. clash (sym i.is ∙ z) y;
-  full = λ y h. clash (sym i.is ∙ z) y;
-  elsewhere = i.elsewhere;
-}
-
-module _ (l l' places places' : List ℕ) (n kind value slot : ℕ) (b : Bool) (i : Looked l places places' n kind value slot b) (z : b ≡ false) (r : Bool) (p : Pushed l l' n kind value r) where
-  lacked : {X : Type 0} → is_listed (kind, value) (pairs_view l n) ≡ true → X
-  lacked y = clash y (sym i.is ∙ z)
-
-  pub gives_one : r ≡ true → Gives l l' places places' n kind value slot (record { code = 0; count = n + 1 })
-  gives_one e =
-      let low = ltb-true n (reason_room l) (sym p.fits ∙ e) in
-      record {
-        kept = p.kept;
-        more = omega arith;
-        fits = λ y. omega arith;
-        listed = lacked;
-        given = λ x y. (refl, p.grown e);
-        full = λ x y. clash (sym p.fits ∙ e) y;
-        elsewhere = i.elsewhere;
-      }
-
-  pub gives_refused : r ≡ false → Gives l l' places places' n kind value slot (record { code = 7; count = n })
-  gives_refused e = record {
-    kept = p.kept;
-    more = omega arith;
-    fits = λ h. h;
-    listed = lacked;
-    given = λ x y. clash y (sym p.fits ∙ e);
-    full = λ x h. refl;
-    elsewhere = i.elsewhere;
-  }
-
--- another count is one more, and below the limit before
-module _ {l l' places places' : List ℕ} {n kind value slot : ℕ} {r : Walked} (g : Gives l l' places places' n kind value slot r) (room : n ≤ reason_room l) (other : r.count ≡ n → ⊥) where
-  risen : n < reason_room l
-  risen = let h = g.more in let k = g.fits room in omega arith
-
-  pub gives-low : n < reason_limit
-  gives-low = let h = risen in omega arith
-
-  gives-one_more : r ≡ record { code = 0; count = n + 1 }
-  gives-one_more = decide (is_listed (kind, value) (pairs_view l n))
-      (λ e. absurd (other (sym (table-length (pair_at l') r.count) ∙ ap length (g.listed e).1 ∙ table-length (pair_at l) n)))
-      (λ e.
-      let p = g.given e (lt-ltb n (reason_room l) risen) in
-      let c : r.count ≡ n + 1 = sym (table-length (pair_at l') r.count) ∙ ap length p.1 ∙ length-append (pairs_view l n) ((kind, value) ∷ []) ∙ ap (λ (x : ℕ). x + 1) (table-length (pair_at l) n) in
-      let f : ℕ → Walked = λ x. record { code = x; count = r.count } in
-      let h : ℕ → Walked = λ x. record { code = 0; count = x } in ap f p.0 ∙ ap h c)
-
-  pub gives-counted : (m : ℕ) → m ≡ n + 1 → Gives l l' places places' n kind value slot (record { code = 0; count = m })
-  gives-counted m e = rw e (subst (λ (x : Walked). Gives l l' places places' n kind value slot x) gives-one_more g)
-
 -- AN EDGE BY ITS LABEL
+
+-- the number of a label that was told from its word
+pub label_is : {k : ℕ} {x y : Label} → label_number x ≡ k → x ≡ y → k ≡ label_number y
+label_is e q = sym e ∙ ap label_number q
+
+-- of a reason that is given, asserted or interface
+pub reason_label : {k : ℕ} {x : Label} → label_number x ≡ k → (x ≡ Asserted) ⊎ (x ≡ Interface) → (1 ≤ k) × (k ≤ 2)
+reason_label e (inl q) = let i = label_is e q in (omega arith, omega arith)
+reason_label e (inr q) = let i = label_is e q in (omega arith, omega arith)
 
 -- the label's words, as they were read
 pub record Labelled (terms : List ℕ) (node kind value : ℕ) : Type 0 where
@@ -140,11 +91,11 @@ module _ {terms cells reasons : List ℕ} {n k node kind value : ℕ} (e : Stand
   label_value_lem = ap (λ (t : Term). t.label_value) (standing-term e node q.here) ∙ sym l.value_is
 
 -- the reason of an edge, asserted or interface
-edge-adds : (s : Store) (node j v : ℕ) (seen : Seen) → (j ≡ 1) ⊎ (j ≡ 2) → (term s node).label_kind ≡ j → (term s node).label_value ≡ v
+edge-adds : (s : Store) (node j v : ℕ) (seen : Seen) → (1 ≤ j) × (j ≤ 2) → (term s node).label_kind ≡ j → (term s node).label_value ≡ v
     → edge walked node seen s ≡ and_then (λ u. λ s₁. ok s₁ seen) (add_reason j v s)
 unfolding edge
-edge-adds s node j v seen (inl a) e f = rw (e, f, a)
-edge-adds s node j v seen (inr a) e f = rw (e, f, a)
+edge-adds s node j v seen two e f =
+    decide (eqb j 1) (λ h. let i = eqb-true j 1 h in rw (e, f, i)) (λ h. let d = eqb-false j 1 h in let i : j ≡ 2 = omega (arith, two.0, two.1) in rw (e, f, i))
 
 module _ (s : Store) (j v : ℕ) (rs : List (ℕ × ℕ)) where
   added-there : is_listed (j, v) rs ≡ true → add_reason j v (with_reasons s rs) ≡ ok (with_reasons s rs) tt
@@ -160,25 +111,42 @@ module _ (s : Store) (j v : ℕ) (rs : List (ℕ × ℕ)) where
   added_full y h = rw (y, h)
 
 -- the reason is given, and the table at exit has the pairs of that at entry
-pub edge-gives : (terms cells tab tab' reasons reasons' : List ℕ) {places places' : List ℕ} (n k node j kind value count : ℕ) {slot : ℕ} (r : Walked) → (j ≡ 1) ⊎ (j ≡ 2) → kind ≡ j
-    → Labelled terms node kind value → Gives reasons reasons' places places' count j value slot r → ((seen : Seen) → Tables n tab seen → Tables n tab' seen)
+pub edge-gives : (terms cells tab tab' reasons reasons' : List ℕ) {places places' : List ℕ} (n k node kind value count : ℕ) {slot : ℕ} (r : Result ℕ Refusal) → (1 ≤ kind) × (kind ≤ 2)
+    → Labelled terms node kind value → Gives reasons reasons' places places' count kind value slot r → ((seen : Seen) → Tables n tab seen → Tables n tab' seen)
     → Walks (edge walked node) (λ s. Edge s node) terms cells tab tab' reasons reasons' n k count r
-edge-gives terms cells tab tab' reasons reasons' n k node j kind value count r two i l g over =
-    record { kept = g.kept; more = g.more; fits = g.fits; shows = λ e q seen m. go e q seen (over seen m) }
+edge-gives terms cells tab tab' reasons reasons' n k node kind value count r two l g over =
+    decide (is_listed (kind, value) (pairs_view reasons count))
+    (λ y. rw (g.listed y) (record {
+      kept = g.kept;
+      more = omega arith;
+      fits = λ h. h;
+      shows = λ e q seen m. record {
+        seen = seen;
+        tabled = over seen m;
+        is = adds e q seen ∙ ap (and_then (λ u. λ s₁. ok s₁ seen)) (added-there e.store kind value (pairs_view reasons count) y) ∙ ap (λ (x : List (ℕ × ℕ)). ok (with_reasons e.store x) seen) (sym g.kept);
+      };
+    }))
+    (λ y. decide (ltb count (reason_room reasons))
+    (λ h. rw ((g.given y h).0) (record {
+      kept = g.kept;
+      more = omega arith;
+      fits = λ x. let z = ltb-true count (reason_room reasons) h in omega arith;
+      shows = λ e q seen m. record {
+        seen = seen;
+        tabled = over seen m;
+        is = adds e q seen ∙ ap (and_then (λ u. λ s₁. ok s₁ seen)) (added-fits e.store kind value (pairs_view reasons count) y (rw (table-length (pair_at reasons) count, e.room_is) h)) ∙ ap (λ (x : List (ℕ × ℕ)). ok (with_reasons e.store x) seen) (sym (g.given y h).1);
+      };
+    }))
+    (λ h. rw (g.full y h) (record {
+      kept = g.kept;
+      more = tt;
+      fits = tt;
+      shows = λ e q seen m. adds e q seen ∙ ap (and_then (λ u. λ s₁. ok s₁ seen)) (added_full e.store kind value (pairs_view reasons count) y (rw (table-length (pair_at reasons) count, e.room_is) h));
+    })))
   where
-    go : (e : Standing terms cells reasons n k) → Edge e.store node → (seen : Seen) → Tables n tab' seen
-        → Shows e.store n tab' reasons' r (edge walked node seen (with_reasons e.store (pairs_view reasons count)))
-    go e q seen m =
-        let s = e.store in
-        let rs = pairs_view reasons count in
-        let z = edge-adds (with_reasons s rs) node j value seen two (label_kind_lem e q l ∙ i) (label_value_lem e q l) in
-        let len : length (pairs_view reasons count) ≡ count = table-length _ count in
-        decide (is_listed (j, value) rs)
-        (λ y. came (g.listed y).0 seen m (z ∙ ap (and_then (λ u. λ s₁. ok s₁ seen)) (added-there s j value rs y) ∙ ap (λ (x : List (ℕ × ℕ)). ok (with_reasons s x) seen) (sym (g.listed y).1)))
-        (λ y. decide (ltb count (reason_room reasons))
-        (λ h. came (g.given y h).0 seen m (z ∙ ap (and_then (λ u. λ s₁. ok s₁ seen)) (added-fits s j value rs y (rw (len, e.room_is) h)) ∙ ap (λ (x : List (ℕ × ℕ)). ok (with_reasons s x) seen) (sym (g.given y h).1)))
-        (λ h. refused (λ c. let w : ◌≡◌ {A = ℕ} 0 7 = sym c ∙ g.full y h in omega arith)
-        (z ∙ ap (and_then (λ u. λ s₁. ok s₁ seen)) (added_full s j value rs y (rw (len, e.room_is) h)) ∙ ap stop (sym (g.full y h)))))
+    adds : (e : Standing terms cells reasons n k) → Edge e.store node → (seen : Seen)
+        → edge walked node seen (with_reasons e.store (pairs_view reasons count)) ≡ and_then (λ u. λ s₁. ok s₁ seen) (add_reason kind value (with_reasons e.store (pairs_view reasons count)))
+    adds e q seen = edge-adds (with_reasons e.store (pairs_view reasons count)) node kind value seen two (label_kind_lem e q l) (label_value_lem e q l)
 
 -- a table of which a word past those of the pairs is another has the same pairs
 tables-over : (n slot : ℕ) (tab tab' : List ℕ) → triangle n + n < 32 * slot → Besides tab tab' slot → (seen : Seen) → Tables n tab seen → Tables n tab' seen
@@ -194,36 +162,39 @@ module _ (terms cells tab reasons : List ℕ) (n k node count : ℕ) (w : Walkab
   pub slot_past : 32 * node + 32 + triangle n + n < 32 * length tab
   slot_past = let a = within-high n node (standing-within w.standing node w.fit.here) in let l = w.wide.long in omega arith
 
-  pub edge_hints : (tab' reasons' : List ℕ) (j kind value : ℕ) (r : Walked) → (j ≡ 1) ⊎ (j ≡ 2) → kind ≡ j → Labelled terms node kind value
-      → Gives reasons reasons' tab tab' count j value (length tab - 1 - node) r → Walks (edge walked node) (λ s. Edge s node) terms cells tab tab' reasons reasons' n k count r
-  edge_hints tab' reasons' j kind value r two i l g =
-      edge-gives terms cells tab tab' reasons reasons' n k node j kind value count r two i l g (tables-over n _ tab tab' (let p = slot_past in omega arith) g.elsewhere)
+  pub edge_hints : (tab' reasons' : List ℕ) (kind value : ℕ) (r : Result ℕ Refusal) → (1 ≤ kind) × (kind ≤ 2) → Labelled terms node kind value
+      → Gives reasons reasons' tab tab' count kind value (length tab - 1 - node) r → Walks (edge walked node) (λ s. Edge s node) terms cells tab tab' reasons reasons' n k count r
+  edge_hints tab' reasons' kind value r two l g =
+      edge-gives terms cells tab tab' reasons reasons' n k node kind value count r two l g (tables-over n _ tab tab' (let p = slot_past in omega arith) g.elsewhere)
 
 pub edge-nothing : (terms cells tab reasons : List ℕ) (n k node kind value count : ℕ) → kind ≡ 4 → Labelled terms node kind value
-    → Walks (edge walked node) (λ s. Edge s node) terms cells tab tab reasons reasons n k count (record { code = 0; count = count })
+    → Walks (edge walked node) (λ s. Edge s node) terms cells tab tab reasons reasons n k count (Ok count)
 unfolding edge
 edge-nothing terms cells tab reasons n k node kind value count i l = record {
   kept = refl;
   more = omega arith;
   fits = λ h. h;
-  shows = λ e q seen m. came refl seen m (rw (label_kind_lem e q l, i));
+  shows = λ e q seen m. record { seen = seen; tabled = m; is = rw (label_kind_lem e q l, i) };
 }
 
 -- no edge has another label
-pub edge_other : (terms cells tab reasons : List ℕ) (n k node kind value count : ℕ) → (kind ≡ 1 → ⊥) → (kind ≡ 2 → ⊥) → (kind ≡ 3 → ⊥) → (kind ≡ 4 → ⊥)
+pub edge_other : (terms cells tab reasons : List ℕ) (n k node kind value count : ℕ) → (kind ≡ 0) ⊎ (4 < kind)
     → Labelled terms node kind value → Walkable terms cells tab reasons n k count (λ s. Edge s node)
-    → Walks (edge walked node) (λ s. Edge s node) terms cells tab tab reasons reasons n k count (record { code = 3; count = count })
-edge_other terms cells tab reasons n k node kind value count d₁ d₂ d₃ d₄ l w =
+    → Walks (edge walked node) (λ s. Edge s node) terms cells tab tab reasons reasons n k count (Err Classes)
+edge_other terms cells tab reasons n k node kind value count other l w =
     absurd (go (w.standing.audited.classed.labels node w.fit.here w.fit.joins))
   where
     same : (term w.standing.store node).label_kind ≡ kind
     same = label_kind_lem w.standing w.fit l
 
-    go : Label w.standing.store node → ⊥
-    go (asserted a b) = d₁ (sym same ∙ a)
-    go (interface a b) = d₂ (sym same ∙ a)
-    go (congruence a) = d₃ (sym same ∙ a)
-    go (definitional a b) = d₄ (sym same ∙ a)
+    none : (m : ℕ) → 1 ≤ m → m ≤ 4 → kind ≡ m → ⊥
+    none m low high e = ⊎_elim (λ i. absurd (omega arith)) (λ i. absurd (omega arith)) other
+
+    go : EdgeLabel w.standing.store node → ⊥
+    go (asserted a b) = none 1 (omega arith) (omega arith) (sym same ∙ a)
+    go (interface a b) = none 2 (omega arith) (omega arith) (sym same ∙ a)
+    go (congruence a) = none 3 (omega arith) (omega arith) (sym same ∙ a)
+    go (definitional a b) = none 4 (omega arith) (omega arith) (sym same ∙ a)
 
 -- THE PAIRS OF A CONGRUENCE
 
@@ -248,18 +219,16 @@ pub record Left {A : Type 0} (f : A → Seen → Work Seen) (s : Store) (n : ℕ
 
 module _ {A : Type 0} (f : A → Seen → Work Seen) (s : Store) (n : ℕ) where
   -- one in turn that came to something, that was refused, and none left
-  pub left-turn : {tab tab' reasons reasons' : List ℕ} {c : ℕ} {r : Walked} {x : A} {l : List A} {o : Out Seen} (v : Left f s n tab reasons c (x ∷ l) o)
-      → Shows s n tab' reasons' r (f x v.seen (with_reasons s (pairs_view reasons c))) → r.code ≡ 0 → Left f s n tab' reasons' r.count l o
-  left-turn {x = x} {l = l} v (came h seen m i) z = record { seen = seen; tabled = m; is = sym (each_first f x l v.seen seen _ _ i) ∙ v.is }
-  left-turn v (refused h i) z = absurd (h z)
+  pub left-turn : {tab tab' reasons reasons' : List ℕ} {c d : ℕ} {x : A} {l : List A} {o : Out Seen} (v : Left f s n tab reasons c (x ∷ l) o)
+      → Came s n tab' reasons' d (f x v.seen (with_reasons s (pairs_view reasons c))) → Left f s n tab' reasons' d l o
+  left-turn {x = x} {l = l} v u = record { seen = u.seen; tabled = u.tabled; is = sym (each_first f x l v.seen u.seen _ _ u.is) ∙ v.is }
 
-  pub left-stopped : {tab tab' reasons reasons' : List ℕ} {c : ℕ} {r : Walked} {x : A} {l : List A} {o : Out Seen} (v : Left f s n tab reasons c (x ∷ l) o)
-      → Shows s n tab' reasons' r (f x v.seen (with_reasons s (pairs_view reasons c))) → (r.code ≡ 0 → ⊥) → Shows s n tab' reasons' r o
-  left-stopped v (came h seen m i) d = absurd (d h)
-  left-stopped {x = x} {l = l} v (refused h i) d = refused h (sym v.is ∙ each-stopped f x l v.seen _ _ i)
+  pub left-stopped : {tab reasons : List ℕ} {c k : ℕ} {x : A} {l : List A} {o : Out Seen} (v : Left f s n tab reasons c (x ∷ l) o)
+      → f x v.seen (with_reasons s (pairs_view reasons c)) ≡ stop k → o ≡ stop k
+  left-stopped {x = x} {l = l} v i = sym v.is ∙ each-stopped f x l v.seen _ _ i
 
-  pub left-none : {tab reasons : List ℕ} {c : ℕ} {o : Out Seen} → Left f s n tab reasons c [] o → Shows s n tab reasons (record { code = 0; count = c }) o
-  left-none v = came refl v.seen v.tabled (sym v.is ∙ each_none f v.seen _)
+  pub left-none : {tab reasons : List ℕ} {c : ℕ} {o : Out Seen} → Left f s n tab reasons c [] o → Came s n tab reasons c o
+  left-none v = record { seen = v.seen; tabled = v.tabled; is = sym v.is ∙ each_none f v.seen _ }
 
 -- from a table, reasons and a count to others: what was counted stays
 pub record Stays (tab tab' reasons reasons' : List ℕ) (count count' : ℕ) : Type 0 where
@@ -272,13 +241,18 @@ pub record Stays (tab tab' reasons reasons' : List ℕ) (count count' : ℕ) : T
 pub stays-none : (tab reasons : List ℕ) (count : ℕ) → Stays tab tab reasons reasons count count
 stays-none tab reasons count = record { tables = refl; long = refl; kept = refl; more = omega arith; fits = λ h. h }
 
+-- what was counted at first stays as well
+pub stays-kept : {tab tab₁ reasons reasons₁ : List ℕ} {count count₁ : ℕ} (reasons₂ : List ℕ) → Stays tab tab₁ reasons reasons₁ count count₁
+    → pairs_view reasons₂ count₁ ≡ pairs_view reasons₁ count₁ → pairs_view reasons₂ count ≡ pairs_view reasons count
+stays-kept {reasons₁ = r₁} {count = c} {count₁ = c₁} r₂ a v = fewer r₁ r₂ c c₁ a.more v ∙ a.kept
+
 pub stays_then : {tab tab₁ tab₂ reasons reasons₁ reasons₂ : List ℕ} {count count₁ count₂ : ℕ} → Stays tab tab₁ reasons reasons₁ count count₁
     → length tab₂ ≡ length tab₁ → length reasons₂ ≡ length reasons₁ → pairs_view reasons₂ count₁ ≡ pairs_view reasons₁ count₁ → count₁ ≤ count₂
     → (count₁ ≤ reason_room reasons₁ → count₂ ≤ reason_room reasons₁) → Stays tab tab₂ reasons reasons₂ count count₂
-stays_then {reasons₁ = r₁} {reasons₂ = r₂} {count = c} {count₁ = c₁} a t l v m f = record {
+stays_then a t l v m f = record {
   tables = t ∙ a.tables;
   long = l ∙ a.long;
-  kept = fewer r₁ r₂ c c₁ a.more v ∙ a.kept;
+  kept = stays-kept _ a v;
   more = let h = a.more in omega arith;
   fits = λ h. let e = a.long in let u = a.fits h in let w = f (omega arith) in omega arith;
 }
@@ -342,11 +316,11 @@ pairing_begin terms cells tab reasons n k node j value c i l = record {
 }
 
 -- a congruence edge does what its pairs do in turn
-edge-shows : {terms cells reasons tab' reasons' : List ℕ} {n k node kind value first : ℕ} {r : Walked} (c : ℕ) (e : Standing terms cells reasons n k) → Edge e.store node → Labelled terms node kind value
+edge-shows : {terms cells reasons : List ℕ} {n k node kind value first : ℕ} (tab' reasons' : List ℕ) (r : Result ℕ Refusal) (c : ℕ) (e : Standing terms cells reasons n k) → Edge e.store node → Labelled terms node kind value
     → kind ≡ 3 → first ≡ value → (seen : Seen) → Shows e.store n tab' reasons' r (each walked (chain e.store first) seen (with_reasons e.store (pairs_view reasons c)))
     → Shows e.store n tab' reasons' r (edge walked node seen (with_reasons e.store (pairs_view reasons c)))
 unfolding edge
-edge-shows c e q l j u seen v = rw (label_kind_lem e q l, j, label_value_lem e q l, ← u) v
+edge-shows tab' reasons' r c e q l j u seen v = rw (label_kind_lem e q l, j, label_value_lem e q l, ← u) v
 
 -- the pair of a cell, as it was read
 pub record Pair (cells : List ℕ) (at x y next : ℕ) : Type 0 where
@@ -380,7 +354,7 @@ module _ (terms cells tab tab₁ reasons reasons₁ : List ℕ) (n k node first 
   pub pairing_fit : (e : Standing terms cells reasons n k) → Edge e.store node → Fit e.store (term e.store node).stamp (x, y)
   pairing_fit e q = every_head (rw (pair-chain e (at_here _ at (g.at_is e q) d) p) at (g.fits e q))
 
-  module _ (tab₂ reasons₂ : List ℕ) (r : Walked) (t : length tab₂ ≡ length tab₁) (m : length reasons₂ ≡ length reasons₁)
+  module _ (tab₂ reasons₂ : List ℕ) (r : Result ℕ Refusal) (t : length tab₂ ≡ length tab₁) (m : length reasons₂ ≡ length reasons₁)
       (w : Walks (walked (x, y)) (λ s. Together s (x, y)) terms cells tab₁ tab₂ reasons₁ reasons₂ n k c₁ r) where
     -- what the pair came to, from where the pairs before it left off
     pairing_shows : (e : Standing terms cells reasons n k) → Edge e.store node → (seen : Seen) → Tables n tab₁ seen
@@ -392,36 +366,36 @@ module _ (terms cells tab tab₁ reasons reasons₁ : List ℕ) (n k node first 
         → Left walked e.store n tab₁ reasons₁ c₁ ((x, y) ∷ chain e.store z) (each walked (chain e.store first) seen (with_reasons e.store (pairs_view reasons c)))
     pairing_left e q seen v = rw (pair-chain e (at_here _ at (g.at_is e q) d) p) at (g.left e q seen v)
 
-    on : Stays tab tab₂ reasons reasons₂ c r.count
-    on = stays_then g.stays t m w.kept w.more w.fits
-
-    pub pairing_turn : r.code ≡ 0 → Pairing terms cells tab tab₂ reasons reasons₂ n k node first z c r.count
-    pairing_turn i = record {
-      stays = on;
+  module _ (tab₂ reasons₂ : List ℕ) (t : length tab₂ ≡ length tab₁) (m : length reasons₂ ≡ length reasons₁) where
+    pub pairing_turn : {c₂ : ℕ} → Walks (walked (x, y)) (λ s. Together s (x, y)) terms cells tab₁ tab₂ reasons₁ reasons₂ n k c₁ (Ok c₂)
+        → Pairing terms cells tab tab₂ reasons reasons₂ n k node first z c c₂
+    pairing_turn {c₂} w = record {
+      stays = stays_then g.stays t m w.kept w.more w.fits;
       at_is = λ e q. pair-next e (at_here _ at (g.at_is e q) d) p;
       fits = λ e q. every_tail (rw (pair-chain e (at_here _ at (g.at_is e q) d) p) at (g.fits e q));
-      left = λ e q seen v. let f = pairing_left e q seen v in left-turn walked e.store n f (pairing_shows e q f.seen f.tabled) i;
+      left = λ e q seen v. let f = pairing_left tab₂ reasons₂ (Ok c₂) t m w e q seen v in left-turn walked e.store n f (pairing_shows tab₂ reasons₂ (Ok c₂) t m w e q f.seen f.tabled);
     }
 
     -- a pair that is refused ends the edge
-    pub pairing_stop : (r.code ≡ 0 → ⊥) → (kind value : ℕ) → kind ≡ 3 → first ≡ value → Labelled terms node kind value
-        → Walks (edge walked node) (λ s. Edge s node) terms cells tab tab₂ reasons reasons₂ n k c r
-    pairing_stop i kind value j u l = record {
-      kept = on.kept;
-      more = on.more;
-      fits = on.fits;
-      shows = λ e q seen v. let f = pairing_left e q seen v in
-          edge-shows c e q l j u seen (left-stopped walked e.store n f (pairing_shows e q f.seen f.tabled) i);
+    pub pairing_stop : {u : Refusal} → Walks (walked (x, y)) (λ s. Together s (x, y)) terms cells tab₁ tab₂ reasons₁ reasons₂ n k c₁ (Err u)
+        → (kind value : ℕ) → kind ≡ 3 → first ≡ value → Labelled terms node kind value
+        → Walks (edge walked node) (λ s. Edge s node) terms cells tab tab₂ reasons reasons₂ n k c (Err u)
+    pairing_stop {u} w kind value j i l = record {
+      kept = stays-kept _ g.stays w.kept;
+      more = tt;
+      fits = tt;
+      shows = λ e q seen v. let f = pairing_left tab₂ reasons₂ (Err u) t m w e q seen v in
+          edge-shows tab₂ reasons₂ (Err u) c e q l j i seen (left-stopped walked e.store n f (pairing_shows tab₂ reasons₂ (Err u) t m w e q f.seen f.tabled));
     }
 
 pub pairing_done : (terms cells tab tab₁ reasons reasons₁ : List ℕ) (n k node first at c c₁ : ℕ) → Pairing terms cells tab tab₁ reasons reasons₁ n k node first at c c₁ → at ≡ 0
     → (kind value : ℕ) → kind ≡ 3 → first ≡ value → Labelled terms node kind value
-    → Walks (edge walked node) (λ s. Edge s node) terms cells tab tab₁ reasons reasons₁ n k c (record { code = 0; count = c₁ })
+    → Walks (edge walked node) (λ s. Edge s node) terms cells tab tab₁ reasons reasons₁ n k c (Ok c₁)
 pairing_done terms cells tab tab₁ reasons reasons₁ n k node first at c c₁ g z kind value j u l = record {
   kept = g.stays.kept;
   more = g.stays.more;
   fits = g.stays.fits;
-  shows = λ e q seen v. edge-shows c e q l j u seen (left-none walked e.store n (rw (ap (chain e.store) z ∙ chain-none e.store.cells 0 (within-zero _ 0 refl)) at (g.left e q seen v)));
+  shows = λ e q seen v. edge-shows tab₁ reasons₁ (Ok c₁) c e q l j u seen (left-none walked e.store n (rw (ap (chain e.store) z ∙ chain-none e.store.cells 0 (within-zero _ 0 refl)) at (g.left e q seen v)));
 }
 
 -- WHAT THE CALLS ASK, AND WHAT FALLS

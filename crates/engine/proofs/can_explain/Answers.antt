@@ -1,23 +1,19 @@
-use Rattle.engine.proofs.Refines.EngineCalls.{can-here, can-not-first, can-not-second, can-classes}
+use mathlib.Core.Path.{sym, ◌∙◌}
+use Rattle.records.proofs.Lists.{clash}
+use Rattle.engine.proofs.Refines.EngineCalls.{string_root}
+use Rattle.engine.proofs.can_explain.Goals.{then-is_string, else-is_string}
 use Rattle.engine.proofs.can_explain.Goals as goal
-
-pub returns-then-not-is_string : goal.returns-then-not-is_string
-returns-then-not-is_string c =
-    can-not-first _ _ _ _ c.requires _ c.is_string.ensures c.if-not-is_string.true-raw
-
-pub returns-then-not-is_string-2 : goal.returns-then-not-is_string-2
-returns-then-not-is_string-2 c =
-    can-not-second _ _ _ _ c.requires _ c.is_string.ensures c.if-not-is_string.false-raw _ c.is_string-2.ensures c.if-not-is_string-2.true-raw
 
 pub root_unchecked-requires : goal.root_unchecked-requires
 root_unchecked-requires c =
-    can-here _ _ 0 0 c.requires _ _ c.is_string.ensures c.if-not-is_string.false-raw
+    elim c.if-is_string.branch [
+      | then-is_string w ↦ string_root _ c.requires c.is_string.ensures w.if-is_string.true
+      | else-is_string w ↦ clash (sym w.value-is ∙ c.if-is_string-2.true) w.if-is_string.false
+    ]
 
-pub root_unchecked-requires-2 : goal.root_unchecked-requires-2
-root_unchecked-requires-2 c =
-    can-here _ _ 0 0 c.requires _ _ c.is_string-2.ensures c.if-not-is_string-2.false-raw
-
-pub returns : goal.returns
-returns c =
-    can-classes _ _ _ _ c.requires _ c.is_string.ensures c.if-not-is_string.false-raw _ c.is_string-2.ensures c.if-not-is_string-2.false-raw _ _
-    c.root_unchecked.ensures c.root_unchecked-2.ensures
+pub root_unchecked-requires-then-is_string-2 : goal.root_unchecked-requires-then-is_string-2
+root_unchecked-requires-then-is_string-2 c =
+    elim c.if-is_string.branch [
+      | then-is_string w ↦ string_root _ c.requires w.is_string-then-is_string.ensures (sym w.value-is ∙ c.if-is_string-2.true)
+      | else-is_string w ↦ clash (sym w.value-is ∙ c.if-is_string-2.true) w.if-is_string.false
+    ]

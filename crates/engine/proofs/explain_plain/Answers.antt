@@ -1,7 +1,8 @@
-use mathlib.Core.Path.{refl, ◌∙◌}
+use mathlib.Core.Path.{refl}
 use mathlib.Core.List.{[]}
-use Rattle.engine.proofs.Refines.Rises.{nearest-fit, rising_begin, rising_switch, rising_turn, far_switch, far-turn}
+use Rattle.engine.proofs.Refines.Rises.{nearest-fit, rising_begin, rising_switch, rising_turn, far-turn}
 use Rattle.engine.proofs.Refines.Plainly.{plain_walkable, plain-room, plain-same, plain_done, plain-met, plain-stop}
+use Rattle.records.proofs.Public.{handed}
 use Rattle.engine.proofs.explain_plain.Goals as goal
 
 pub returns-then-a-b : goal.returns-then-a-b
@@ -14,65 +15,36 @@ nearest_unchecked-top-requires c =
 
 pub loop-node-init : goal.loop-node-init
 loop-node-init c =
-    (λ cells tab k. rising_begin _ cells tab _ _ k _ _ _ _ c.nearest_unchecked-top.ensures, refl)
-
-pub shape_of-reasons-then-last : goal.shape_of-reasons-then-last
-shape_of-reasons-then-last c =
-    (c.loop-node.invariant.0 [] [] 0).stays.long
-
-pub shape_of-places-then-last : goal.shape_of-places-then-last
-shape_of-places-then-last c =
-    c.loop-node.invariant.1
+    λ cells tab k. rising_begin _ cells tab _ _ k _ _ _ _ c.nearest_unchecked-top.ensures
 
 pub returns-then-last : goal.returns-then-last
 returns-then-last c =
-    plain_done _ _ _ _ _ _ _ _ _ _ _ c.if-a-b.false c.loop-node.invariant.0 c.if-last.true c.if-node-top.true
-
-pub loop-node-smaller-then-node-top : goal.loop-node-smaller-then-node-top
-loop-node-smaller-then-node-top c =
-    far_switch _ _ _ _ _ c.if-node-top.true c.if-last.false
+    plain_done _ _ _ _ _ _ _ _ _ _ _ c.if-a-b.false c.loop-node.invariant c.if-last.true c.if-node-top.true
 
 pub loop-node-preserved-then-node-top : goal.loop-node-preserved-then-node-top
 loop-node-preserved-then-node-top c =
-    (λ cells tab k. rising_switch _ _ _ _ _ _ _ _ _ _ _ _ _ _ _ (c.loop-node.invariant.0 cells tab k) c.if-last.false c.if-node-top.true, c.loop-node.invariant.1)
+    λ cells tab k. rising_switch _ _ _ _ _ _ _ _ _ _ _ _ _ _ _ (c.loop-node.invariant cells tab k) c.if-last.false c.if-node-top.true
 
-pub plain_edge-p-requires : goal.plain_edge-p-requires
-plain_edge-p-requires c =
-    rw c.with_reasons.ensures (plain-room c.requires.1 c.loop-node.invariant.0)
-
-pub shape_of-reasons-in_default : goal.shape_of-reasons-in_default
-shape_of-reasons-in_default c =
-    c.plain_edge-p.auto.reasons ∙ (c.loop-node.invariant.0 [] [] 0).stays.long
-
-pub shape_of-places-in_default : goal.shape_of-places-in_default
-shape_of-places-in_default c =
-    c.plain_edge-p.auto.places ∙ c.loop-node.invariant.1
+pub plain_edge-requires : goal.plain_edge-requires
+plain_edge-requires c =
+    rw c.with_reasons.ensures (plain-room c.requires.1 c.loop-node.invariant)
 
 pub returns-in_default : goal.returns-in_default
 returns-in_default c =
-    plain-met _ _ _ _ _ _ _ _ _ _ _ c.if-a-b.false c.loop-node.invariant.0 _ (rw c.with_reasons.ensures at c.plain_edge-p.ensures).kept
+    plain-met _ _ _ _ _ _ _ _ _ _ _ c.if-a-b.false c.loop-node.invariant _ (rw c.with_reasons.ensures at c.plain_edge.ensures).kept
 
-pub shape_of-reasons-then-r-ne0 : goal.shape_of-reasons-then-r-ne0
-shape_of-reasons-then-r-ne0 c =
-    c.plain_edge-p.auto.reasons ∙ (c.loop-node.invariant.0 [] [] 0).stays.long
-
-pub shape_of-places-then-r-ne0 : goal.shape_of-places-then-r-ne0
-shape_of-places-then-r-ne0 c =
-    c.plain_edge-p.auto.places ∙ c.loop-node.invariant.1
-
-pub returns-then-r-ne0 : goal.returns-then-r-ne0
-returns-then-r-ne0 c =
-    plain-stop _ _ _ _ _ _ _ _ _ _ _ c.if-a-b.false c.loop-node.invariant.0 _ c.if-node-top.false c.plain_edge-p.auto.reasons _
-    ((rw c.with_reasons.ensures at c.plain_edge-p.ensures).done _ c.in-Ended.is) c.if-r-ne0.true
+pub returns-in_err-count : goal.returns-in_err-count
+returns-in_err-count c =
+    rw (handed _ c.from_residual.ensures.1)
+    (plain-stop _ _ _ _ _ _ _ _ _ _ _ c.if-a-b.false c.loop-node.invariant _ c.if-node-top.false c.plain_edge.auto.reasons
+    (rw c.with_reasons.ensures at c.in_err-count.ensures).done)
 
 pub loop-node-smaller : goal.loop-node-smaller
 loop-node-smaller c =
-    far-turn _ _ _ [] [] _ _ _ _ _ _ _ _ _ _ _ (plain_walkable _ _ _ _ _ c.requires.0 c.requires.1) (c.loop-node.invariant.0 _ [] _) c.if-node-top.false _ c.forest_parent-node.ensures
+    far-turn _ _ _ [] [] _ _ _ _ _ _ _ _ _ _ _ (plain_walkable _ _ _ _ _ c.requires.0 c.requires.1) (c.loop-node.invariant _ [] _) c.if-node-top.false _ c.forest_parent-node.ensures
 
 pub loop-node-preserved : goal.loop-node-preserved
-loop-node-preserved c = (
-  λ cells tab k. rising_turn _ _ _ _ _ _ _ _ _ _ _ _ _ _ _ (c.loop-node.invariant.0 cells tab k) c.if-node-top.false _ _ _ refl c.plain_edge-p.auto.reasons
-      ((rw c.with_reasons.ensures at c.plain_edge-p.ensures).done _ c.in-Ended.is cells tab _ k) c.if-r-ne0.false _
-      c.forest_parent-node.ensures,
-  c.plain_edge-p.auto.places ∙ c.loop-node.invariant.1,
-)
+loop-node-preserved c = λ cells tab k.
+    rising_turn _ _ _ _ _ _ _ _ _ _ _ _ _ _ _ (c.loop-node.invariant cells tab k) c.if-node-top.false _ _ refl c.plain_edge.auto.reasons
+    ((rw (c.in-Some.is, c.with_reasons.ensures) at c.in_ok-count.ensures).done cells tab _ k) _
+    c.forest_parent-node.ensures

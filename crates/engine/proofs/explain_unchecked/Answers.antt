@@ -1,16 +1,16 @@
 use Rattle.engine.proofs.Refines.Starts.{explainable_of, explain_came, explain_refused}
+use Rattle.records.proofs.Public.{handed}
 use Rattle.engine.proofs.explain_unchecked.Goals as goal
 
-pub explain_pair-r-requires : goal.explain_pair-r-requires
-explain_pair-r-requires c =
+pub explain_pair-requires : goal.explain_pair-requires
+explain_pair-requires c =
     (c.requires.0.sized.term_limited, explainable_of _ _ _ _ c.requires.0 c.requires.1)
 
-pub returns-then-r-ne0 : goal.returns-then-r-ne0
-returns-then-r-ne0 c =
-    explain_refused _ _ _ _ c.requires.0 c.requires.1 _ c.explain_pair-r.auto.reasons _ c.explain_pair-r.ensures
-    c.if-r-ne0.true
+pub returns-in_err-count : goal.returns-in_err-count
+returns-in_err-count c =
+    rw (handed _ c.from_residual.ensures.1)
+    (explain_refused _ _ _ _ c.requires.0 c.requires.1 _ c.explain_pair.auto.reasons _ c.in_err-count.ensures)
 
 pub returns : goal.returns
 returns c =
-    explain_came _ _ _ _ c.requires.0 c.requires.1 _ c.explain_pair-r.auto.reasons _ c.explain_pair-r.ensures
-    c.if-r-ne0.false _ c.with_reasons.ensures
+    explain_came _ _ _ _ c.requires.0 c.requires.1 _ c.explain_pair.auto.reasons _ c.in_ok-count.ensures _ c.with_reasons.ensures

@@ -1,22 +1,21 @@
-use mathlib.Core.Path.{refl}
-use mathlib.Core.Logic.{inl, inr}
-use Rattle.engine.proofs.Refines.Plainly.{plainly-met, plain-gives, plain-nothing}
+use borrow.Author.Rules.{rules}
+use Rattle.records.proofs.Public.{handed}
+use Rattle.engine.proofs.Refines.Turns.{label_is, reason_label}
+use Rattle.engine.proofs.Refines.Plainly.{plain-given, plain-refused, plain-nothing}
 use Rattle.engine.proofs.plain_edge.Goals as goal
 
-pub returns-in-1 : goal.returns-in-1
-returns-in-1 c =
-    plain-gives _ _ _ _ 1 _ _ _ _ (inl refl) c.in-1.is (record { kind_is = c.label_kind-kind.ensures; value_is = c.label_value-value.ensures })
-    c.give_plain.ensures
+pub returns-in_err-given-in-Ok-Asserted : goal.returns-in_err-given-in-Ok-Asserted
+returns-in_err-given-in-Ok-Asserted c =
+    rw (handed _ c.from_residual.ensures.1)
+    (plain-refused _ _ _ _ _ _ _ (reason_label c.in-Ok-Asserted.ensures (search rules))
+    (record { kind_is = c.label_kind-kind.ensures; value_is = c.label_value-value.ensures }) c.in_err-given-in-Ok-Asserted.ensures)
 
-pub returns-in-2 : goal.returns-in-2
-returns-in-2 c =
-    plain-gives _ _ _ _ 2 _ _ _ _ (inr refl) c.in-2.is (record { kind_is = c.label_kind-kind.ensures; value_is = c.label_value-value.ensures })
-    c.give_plain-in-2.ensures
+pub returns-in_ok-given-in-Ok-Asserted : goal.returns-in_ok-given-in-Ok-Asserted
+returns-in_ok-given-in-Ok-Asserted c =
+    plain-given _ _ _ _ _ _ _ (reason_label c.in-Ok-Asserted.ensures (search rules))
+    (record { kind_is = c.label_kind-kind.ensures; value_is = c.label_value-value.ensures }) c.in_ok-given-in-Ok-Asserted.ensures
 
-pub returns-in-4 : goal.returns-in-4
-returns-in-4 c =
-    plain-nothing _ _ _ _ _ _ c.in-4.is (record { kind_is = c.label_kind-kind.ensures; value_is = c.label_value-value.ensures })
-
-pub returns-in_default : goal.returns-in_default
-returns-in_default c =
-    plainly-met refl
+pub returns-in-Ok-Definitional : goal.returns-in-Ok-Definitional
+returns-in-Ok-Definitional c =
+    plain-nothing _ _ _ _ _ _ (label_is c.in-Ok-Definitional.ensures c.in-Ok-Definitional.field-0-is)
+    (record { kind_is = c.label_kind-kind.ensures; value_is = c.label_value-value.ensures })

@@ -1,12 +1,12 @@
 -- Where a reason stands in a list, and the words that remember it.
-use Rattle.std.specs.Prelude.{◌≡◌, Bool, true, List, ℕ, ◌≤◌, get_or, ltb}
+use Rattle.std.specs.Prelude.{◌≡◌, Bool, true, List, ℕ, ◌<◌, get_or, Option, is_some, IfSome}
 use Rattle.records.specs.View.{pairs_view}
 use Rattle.records.specs.Make.{is_listed}
 
--- a place counted from 1, above 0 exactly where the pair is there
-pub record Placed (l : List ℕ) (n a b r : ℕ) : Type 0 where
-  pub is : ltb 0 r ≡ is_listed (a, b) (pairs_view l n)
-  pub low : r ≤ n
+-- a place exactly where the pair is there
+pub record Placed (l : List ℕ) (n a b : ℕ) (r : Option ℕ) : Type 0 where
+  pub is : is_some r ≡ is_listed (a, b) (pairs_view l n)
+  pub low : IfSome r (λ i. i < n)
 
 -- true only where the pair is there
 pub record Stands (l : List ℕ) (n a b : ℕ) (r : Bool) : Type 0 where

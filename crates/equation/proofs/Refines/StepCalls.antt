@@ -9,16 +9,19 @@ use lib.ListN.{length, take, get_or, length-take}
 use lib.Seq.{ext_get_or, get_or-take}
 use lib.IntN.{ℤ}
 use lib.Dec.{leb}
-use borrow.Author.Tests.{eq-eqb, ne_eqb, eqb-true, le-leb, not-true, not-false}
+use borrow.Author.Tests.{eqb-true, le-leb, not-false}
 use Rattle.records.specs.declared.State.{State}
+use Rattle.std.specs.Prelude.{Result, Ok, Err}
+use Rattle.records.specs.declared.refusal.Refusal.{Refusal}
+use Rattle.records.specs.Refusal.{number}
 use Rattle.records.specs.Lists.{all}
 use Rattle.records.specs.Store.{Term, Room, Store, Out, ok, stop, Work, and_then, ◌>>=◌, term, kind, is_string, is_equation}
-use Rattle.records.specs.View.{Lent, lent, store_of, term_at, pair_at, pairs_view, reasons_at}
+use Rattle.records.specs.View.{termed, Lent, lent, store_of, term_at, pair_at, pairs_view, reasons_at}
 use Rattle.records.specs.Rules.{audit, reason_rule, list_limit, is_list}
 use Rattle.records.specs.Make.{with_reasons}
 use Rattle.records.specs.Working.Audited.{Audited, Ready}
 use Rattle.records.specs.Working.Doing.{ReadyFor, Working, CutRefused}
-use Rattle.records.proofs.Lists.{both_left, both_right, both_true, left_false, right-false, and-next, all_every, every_all, table_same, table-length, table_at_lem, all-table, below_at, below_all}
+use Rattle.records.proofs.Lists.{both_left, both_right, both_true, all_every, every_all, table_same, table-length, table_at_lem, all-table, below_at, below_all}
 use Rattle.records.proofs.Works.{stop-not, one_store, via}
 use Rattle.records.proofs.Beside.{audited-beside}
 use Rattle.records.proofs.IndexStores.{records_same-but}
@@ -30,10 +33,8 @@ use Rattle.records.proofs.Climbs.{view_term, term-within}
 use Rattle.records.proofs.Grown.{kind-term, grown-string, strings-later}
 use Rattle.records.proofs.Outcomes.{refused_wider}
 use Rattle.records.proofs.Public.{Undone, given, cut, undone-is, passed-ready}
-use Rattle.normalize.specs.declared.DeepForm.{DeepForm}
-use Rattle.normalize.specs.declared.DeepForm.TheVariants as deep
 use Rattle.normalize.specs.Normalize.{deep_form, form_arguments}
-use Rattle.normalize.specs.Calls.{first_words, deepened}
+use Rattle.normalize.specs.Calls.{first_words}
 use Rattle.normalize.specs.Working.Pushes.{Candidates}
 use Rattle.records.proofs.LaterStores.{Later, later-below}
 use Rattle.normalize.proofs.Candidates.{candidates_later}
@@ -41,7 +42,7 @@ use Rattle.normalize.proofs.Deep.{deep_gives, deep_kept}
 use Rattle.normalize.proofs.Carried.{Carried, carried_none, carried-then, carried-kept}
 use Rattle.normalize.proofs.ListCalls.{listed-short, listed_unready, listed-unfit, listed-works}
 use Rattle.sides.specs.declared.StepResult.{StepResult}
-use Rattle.sides.specs.declared.StepResult.TheVariants.{Done, Saturated, Conflict, Propagate, Split, Refused}
+use Rattle.sides.specs.declared.StepResult.TheVariants.{Done, Saturated, Conflict, Propagate, Split}
 use Rattle.sides.specs.Wordeq.{Answer, done, saturated, conflict, propagate, split, is_guard, resolve}
 use Rattle.sides.specs.Working.Results.{BothLists}
 use Rattle.sides.proofs.Resolve.{resolve-gives}
@@ -50,8 +51,6 @@ use Rattle.equation.specs.declared.Outcome.{Outcome}
 use Rattle.equation.specs.declared.Outcome.TheVariants.{Answered, Unexpanded}
 use Rattle.equation.specs.Equation.{Stepped, unexpanded, answered, returned, or_unexpanded, step, step_arguments}
 use Rattle.equation.specs.Calls.{stepped, PublicStep}
-use Rattle.wordeq.specs.Working.Cuts.{unresolved}
-use Rattle.equation.specs.Working.Cuts.{unstepped}
 use Rattle.equation.specs.Working.Forms.{resolve_forms, right_form, carried}
 use Rattle.equation.proofs.Sound.{second-string, step_gives, step-sound, step-stops}
 
@@ -83,13 +82,12 @@ module _ (m : Lent) (c : State) (ready : Ready m c) (n : ℕ) (h : n ≤ c.reaso
 
 -- WORDEQ'S ANSWER
 
-returned-is : (o : StepResult) (m : Lent) (k : List ℕ) (n : ℕ) → and_then (returned (pairs_view m.reasons n)) (resolved o m k) ≡ stepped (Answered (carried n o)) m k
+returned-is : (o : StepResult) (m : Lent) (k : List ℕ) (n : ℕ) → and_then (returned (pairs_view m.reasons n)) (resolved (Ok o) m k) ≡ stepped (Ok (Answered (carried n o))) m k
 returned-is (Done c) m k n = refl
 returned-is (Saturated c) m k n = refl
 returned-is (Conflict c) m k n = refl
 returned-is (Propagate c v w f) m k n = refl
 returned-is (Split c j g i) m k n = refl
-returned-is (Refused j) m k n = refl
 
 -- what it leaves is audited
 forms_audited : (m : Lent) (c : State) → Ready m c → (l r : List ℕ) (g : ℤ) → BothLists (store_of m c) l r → (n : ℕ) → n ≤ c.reasons → (s' : Store) (x : Stepped)
@@ -109,100 +107,88 @@ forms_audited m c ready l r g lists n h s' x e =
     go s₁ (split atoms z i) k j = let q : s₁ ≡ s' = cc in subst Audited q k.audited
 
 -- another count of reasons leaves the slices ready, where the store is audited
-forms_ready : (m : Lent) (k : List ℕ) (n : ℕ) (o : StepResult) {d : State} {a : Stepped} → ReadyFor m (resolved o m k) → Audited (store_of m d) → stepped (Answered (carried n o)) m k ≡ ok (store_of m d) a → Ready m d
+forms_ready : (m : Lent) (k : List ℕ) (n : ℕ) (o : StepResult) {d : State} {a : Stepped} → ReadyFor m (resolved (Ok o) m k) → Audited (store_of m d) → stepped (Ok (Answered (carried n o))) m k ≡ ok (store_of m d) a → Ready m d
 forms_ready m k n (Done e) r a q = ready-beside (r e _ refl) refl refl a (records_same-but (one_store q) refl refl refl)
 forms_ready m k n (Saturated e) r a q = ready_as (r e _ refl) (sym (one_store q))
 forms_ready m k n (Conflict e) r a q = ready_as (r e _ refl) (sym (one_store q))
 forms_ready m k n (Propagate e v w f) r a q = ready_as (r e _ refl) (sym (one_store q))
 forms_ready m k n (Split e j g i) r a q = ready_as (r e _ refl) (sym (one_store q))
-forms_ready m k n (Refused j) r a q = stop-not q
 
-pub forms_resolved : {m m' : Lent} {c : State} (l r k : List ℕ) (g z : ℤ) (n : ℕ) (o x : StepResult) → Ready m c → BothLists (store_of m c) l r → n ≤ c.reasons → z ≡ g → Working (resolve l r z) m m' c (resolved o m' k) → x ≡ carried n o
-    → Working (resolve_forms l r g (pairs_view m.reasons n)) m m' c (stepped (Answered x) m' k)
+pub forms-refused : {m m' : Lent} {c : State} (l r : List ℕ) (g z : ℤ) (rs : List (ℕ × ℕ)) {k : ℕ} → z ≡ g → Working (resolve l r z) m m' c (stop k) → Working (resolve_forms l r g rs) m m' c (stop k)
+unfolding resolve_forms
+forms-refused {m} {c = c} l r g z rs i w = working_stopped (ap (and_then (returned rs)) (ap (λ (y : ℤ). resolve l r y (store_of m c)) (sym i) ∙ w.says)) w.kept
+
+pub forms_resolved : {m m' : Lent} {c : State} (l r k : List ℕ) (g z : ℤ) (n : ℕ) (o x : StepResult) → Ready m c → BothLists (store_of m c) l r → n ≤ c.reasons → z ≡ g → Working (resolve l r z) m m' c (resolved (Ok o) m' k) → x ≡ carried n o
+    → Working (resolve_forms l r g (pairs_view m.reasons n)) m m' c (stepped (Ok (Answered x)) m' k)
 unfolding resolve_forms
 forms_resolved {m} {m'} {c} l r k g z n o x ready lists h i w e = record {
   says = said;
   kept = w.kept;
-  ready = λ d a q. forms_ready m' k n o w.ready (forms_audited m c ready l r g lists n h (store_of m' d) a (said ∙ q)) (sym (ap (λ (y : StepResult). stepped (Answered y) m' k) e) ∙ q);
+  ready = λ d a q. forms_ready m' k n o w.ready (forms_audited m c ready l r g lists n h (store_of m' d) a (said ∙ q)) (sym (ap (λ (y : StepResult). stepped (Ok (Answered y)) m' k) e) ∙ q);
 }
   where
-    said : resolve_forms l r g (pairs_view m.reasons n) (store_of m c) ≡ stepped (Answered x) m' k
+    said : resolve_forms l r g (pairs_view m.reasons n) (store_of m c) ≡ stepped (Ok (Answered x)) m' k
     said =
         ap (and_then (returned (pairs_view m.reasons n))) (ap (λ (y : ℤ). resolve l r y (store_of m c)) (sym i) ∙ w.says)
-        ∙ ap (λ (rs : List (ℕ × ℕ)). and_then (returned rs) (resolved o m' k)) (sym (reasons-kept m m' c w.kept.store n h))
+        ∙ ap (λ (rs : List (ℕ × ℕ)). and_then (returned rs) (resolved (Ok o) m' k)) (sym (reasons-kept m m' c w.kept.store n h))
         ∙ returned-is o m' k n
-        ∙ ap (λ (y : StepResult). stepped (Answered y) m' k) (sym e)
-
-pub carried-done : (o : StepResult) (n : ℕ) {x : StepResult} (c : State) → o ≡ Done c → x ≡ carried n (Done c) → x ≡ carried n o
-carried-done o n c e q = q ∙ ap (carried n) (sym e)
-
--- what a `match` finds where it is not Done is carried as it is
-pub carried_same : (o : StepResult) (n : ℕ) → ((c : State) → o ≡ Done c → ⊥) → o ≡ carried n o
-carried_same (Done c) n k = absurd (k c refl)
-carried_same (Saturated c) n k = refl
-carried_same (Conflict c) n k = refl
-carried_same (Propagate c v w f) n k = refl
-carried_same (Split c j g i) n k = refl
-carried_same (Refused j) n k = refl
+        ∙ ap (λ (y : StepResult). stepped (Ok (Answered y)) m' k) (sym e)
 
 -- A DEEP FORM, AND WHAT FOLLOWS IT
 
 abbrev form_then : List ℕ → ℕ → List (ℕ × ℕ) → (List ℕ → Work Stepped) → Work Stepped
 form_then known t rs f = deep_form known t >>= or_unexpanded rs f
 
-module _ {m m₁ : Lent} {c : State} (list known : List ℕ) (t : ℕ) (x : DeepForm) (ready : Ready m c) (fit : form_arguments known t (store_of m c) ≡ true) (w : Working (deep_form known t) m m₁ c (deepened x m₁ list)) where
-  form-is : {y : DeepForm} → x ≡ y → deep_form known t (store_of m c) ≡ deepened y m₁ list
-  form-is e = w.says ∙ ap (λ (y : DeepForm). deepened y m₁ list) e
+module _ {m m₁ : Lent} {c : State} (known : List ℕ) (t : ℕ) where
+  form-stop : {k : ℕ} (rs : List (ℕ × ℕ)) (f : List ℕ → Work Stepped) → Working (deep_form known t) m m₁ c (stop k) → Working (form_then known t rs f) m m₁ c (stop k)
+  form-stop rs f w = working_stopped (ap (and_then (or_unexpanded rs f)) w.says) w.kept
 
-  form-stop : {k : ℕ} (rs : List (ℕ × ℕ)) (f : List ℕ → Work Stepped) → x ≡ deep.Refused k → Working (form_then known t rs f) m m₁ c (stop k)
-  form-stop rs f e = working_stopped (ap (and_then (or_unexpanded rs f)) (form-is e)) w.kept
+  module _ (ready : Ready m c) (fit : form_arguments known t (store_of m c) ≡ true) (d : State) where
+    form-none : (n : ℕ) (f : List ℕ → Work Stepped) → n ≤ c.reasons → Working (deep_form known t) m m₁ c (ok (store_of m₁ d) none) → Working (form_then known t (pairs_view m.reasons n) f) m m₁ c (ok (store_of m₁ (reasons_at d n)) unexpanded)
+    form-none n f h w =
+        let r = reasons-kept m m₁ c w.kept.store n h in
+        let k = deep_kept known t (store_of m c) ready.audited fit (store_of m₁ d) none w.says in
+        let a = subst (λ (rs : List (ℕ × ℕ)). Audited (with_reasons (store_of m₁ d) rs)) (sym r) (cut-audited m c ready n h k) in
+        working_left (ready-beside (w.ready d none refl) refl refl a (record { terms = refl; cells = refl; chars = refl }))
+        (ap (and_then (or_unexpanded (pairs_view m.reasons n) f)) w.says ∙ ap (λ (rs : List (ℕ × ℕ)). or_unexpanded rs f none (store_of m₁ d)) (sym r)) w.kept
 
-  form-none : {d : State} (n : ℕ) (f : List ℕ → Work Stepped) → n ≤ c.reasons → x ≡ deep.None d → Working (form_then known t (pairs_view m.reasons n) f) m m₁ c (ok (store_of m₁ (reasons_at d n)) unexpanded)
-  form-none {d} n f h e =
-      let r = reasons-kept m m₁ c w.kept.store n h in
-      let k = deep_kept known t (store_of m c) ready.audited fit (store_of m₁ d) none (form-is e) in
-      let a = subst (λ (rs : List (ℕ × ℕ)). Audited (with_reasons (store_of m₁ d) rs)) (sym r) (cut-audited m c ready n h k) in
-      let left = w.ready d none (ap (λ (y : DeepForm). deepened y m₁ list) e) in
-      working_left (ready-beside left refl refl a (record { terms = refl; cells = refl; chars = refl }))
-      (ap (and_then (or_unexpanded (pairs_view m.reasons n) f)) (form-is e) ∙ ap (λ (rs : List (ℕ × ℕ)). or_unexpanded rs f none (store_of m₁ d)) (sym r)) w.kept
+module _ {m m₁ : Lent} {c : State} (list known : List ℕ) (t : ℕ) (ready : Ready m c) (fit : form_arguments known t (store_of m c) ≡ true) (j : ℕ) (d : State) (w : Working (deep_form known t) m m₁ c (ok (store_of m₁ d) (some (first_words list j)))) where
+  form-later : Later (store_of m c) (store_of m₁ d)
+  form-later = deep_kept known t (store_of m c) ready.audited fit (store_of m₁ d) (some (first_words list j)) w.says
 
-  module _ {j : ℕ} {d : State} (e : x ≡ deep.List j d) where
-    form-later : Later (store_of m c) (store_of m₁ d)
-    form-later = deep_kept known t (store_of m c) ready.audited fit (store_of m₁ d) (some (first_words list j)) (form-is e)
+  pub form-ready : Ready m₁ d
+  form-ready = w.ready d (some (first_words list j)) refl
 
-    form-carried : Carried m c m₁ d
-    form-carried = carried-then (carried_none ready) m₁ d w.kept form-later (w.ready d (some (first_words list j)) (ap (λ (y : DeepForm). deepened y m₁ list) e))
+  form-carried : Carried m c m₁ d
+  form-carried = carried-then (carried_none ready) m₁ d w.kept form-later form-ready
 
-    pub form-ready : Ready m₁ d
-    form-ready = w.ready d (some (first_words list j)) (ap (λ (y : DeepForm). deepened y m₁ list) e)
+  -- the table of the known list stands for the next form too
+  pub form_candidates : {cs table : List ℕ} → Candidates (store_of m c) cs table → Candidates (store_of m₁ d) cs table
+  form_candidates k = candidates_later k form-later
 
-    -- the table of the known list stands for the next form too
-    pub form_candidates : {cs table : List ℕ} → Candidates (store_of m c) cs table → Candidates (store_of m₁ d) cs table
-    form_candidates k = candidates_later k form-later
+  pub form-incoming : {n : ℕ} → n ≤ c.reasons → n ≤ d.reasons
+  form-incoming h = let b = (later-below m m₁ c d form-later).reasons in omega arith
 
-    pub form-incoming : {n : ℕ} → n ≤ c.reasons → n ≤ d.reasons
-    form-incoming h = let b = (later-below m m₁ c d form-later).reasons in omega arith
+  pub form-short : j ≤ list_limit
+  form-short = let l = (deep_gives known t (store_of m c) ready.audited fit (store_of m₁ d) (first_words list j) w.says).long in let n = table-length (λ i. get_or list i 0) j in omega arith
 
-    pub form-short : j ≤ list_limit
-    form-short = let l = (deep_gives known t (store_of m c) ready.audited fit (store_of m₁ d) (first_words list j) (form-is e)).long in let n = table-length (λ i. get_or list i 0) j in omega arith
+  pub form-list : {l : List ℕ} → l ≡ first_words list j → is_list (store_of m₁ d) l ≡ true
+  form-list {l} i =
+      let y = deep_gives known t (store_of m c) ready.audited fit (store_of m₁ d) (first_words list j) w.says in
+      let n = table-length (λ i. get_or list i 0) j in
+      ap (is_list (store_of m₁ d)) i
+      ∙ both_true (leb (length (first_words list j)) list_limit) _ (le-leb (length (first_words list j)) list_limit (let z = form-short in omega arith)) (every_all y.strings)
 
-    pub form-list : {l : List ℕ} → l ≡ first_words list j → is_list (store_of m₁ d) l ≡ true
-    form-list {l} i =
-        let y = deep_gives known t (store_of m c) ready.audited fit (store_of m₁ d) (first_words list j) (form-is e) in
-        let n = table-length (λ i. get_or list i 0) j in
-        ap (is_list (store_of m₁ d)) i
-        ∙ both_true (leb (length (first_words list j)) list_limit) _ (le-leb (length (first_words list j)) list_limit (let z = form-short in omega arith)) (every_all y.strings)
+  pub form-keeps : (l : List ℕ) → is_list (store_of m c) l ≡ true → is_list (store_of m₁ d) l ≡ true
+  form-keeps l i =
+      both_true (leb (length l) list_limit) _ (both_left (leb (length l) list_limit) _ i)
+      (every_all (strings-later form-later.grown (all_every _ l (both_right (leb (length l) list_limit) _ i))))
 
-    pub form-keeps : (l : List ℕ) → is_list (store_of m c) l ≡ true → is_list (store_of m₁ d) l ≡ true
-    form-keeps l i =
-        both_true (leb (length l) list_limit) _ (both_left (leb (length l) list_limit) _ i)
-        (every_all (strings-later form-later.grown (all_every _ l (both_right (leb (length l) list_limit) _ i))))
+  pub form-string : (u : ℕ) → is_string (store_of m c) u ≡ true → is_string (store_of m₁ d) u ≡ true
+  form-string u i = grown-string form-later.grown u i
 
-    pub form-string : (u : ℕ) → is_string (store_of m c) u ≡ true → is_string (store_of m₁ d) u ≡ true
-    form-string u i = grown-string form-later.grown u i
-
-    form-some : {m₂ : Lent} {o : Out Stepped} (rs : List (ℕ × ℕ)) (f : List ℕ → Work Stepped) → Working (f (first_words list j)) m₁ m₂ d o → Working (form_then known t rs f) m m₂ c o
-    form-some {m₂} rs f v = record { says = ap (and_then (or_unexpanded rs f)) (form-is e) ∙ v.says; kept = carried-kept form-carried m₂ v.kept; ready = v.ready }
+  form-some : {m₂ : Lent} {o : Out Stepped} (rs : List (ℕ × ℕ)) (f : List ℕ → Work Stepped) → Working (f (first_words list j)) m₁ m₂ d o → Working (form_then known t rs f) m m₂ c o
+  form-some {m₂} rs f v = record { says = ap (and_then (or_unexpanded rs f)) w.says ∙ v.says; kept = carried-kept form-carried m₂ v.kept; ready = v.ready }
 
 -- the first words of a slice are a part of it
 pub first_part : (l : List ℕ) (n : ℕ) → n ≤ length l → take n l ≡ first_words l n
@@ -213,22 +199,23 @@ first_part l n h =
 
 -- THE RIGHT SIDE
 
-module _ {m m₁ : Lent} {c : State} (list known : List ℕ) (t n : ℕ) (x : DeepForm) (g : ℤ) (l : List ℕ) (h : n ≤ c.reasons) (ready : Ready m c) (fit : form_arguments known t (store_of m c) ≡ true) (w : Working (deep_form known t) m m₁ c (deepened x m₁ list)) where
-  pub right-stop : {k : ℕ} → x ≡ deep.Refused k → Working (right_form known t g l (pairs_view m.reasons n)) m m₁ c (stop k)
+module _ {m m₁ : Lent} {c : State} (known : List ℕ) (t n : ℕ) (g : ℤ) (l : List ℕ) where
+  pub right-stop : {k : ℕ} → Working (deep_form known t) m m₁ c (stop k) → Working (right_form known t g l (pairs_view m.reasons n)) m m₁ c (stop k)
   unfolding right_form
-  right-stop e = form-stop list known t x ready fit w (pairs_view m.reasons n) (λ r. resolve_forms l r g (pairs_view m.reasons n)) e
+  right-stop w = form-stop known t (pairs_view m.reasons n) (λ r. resolve_forms l r g (pairs_view m.reasons n)) w
 
-  pub right-none : {d d' : State} → x ≡ deep.None d → d' ≡ reasons_at d n → Working (right_form known t g l (pairs_view m.reasons n)) m m₁ c (ok (store_of m₁ d') unexpanded)
-  unfolding right_form
-  right-none e z = rw z (form-none list known t x ready fit w n (λ r. resolve_forms l r g (pairs_view m.reasons n)) h e)
+  module _ (h : n ≤ c.reasons) (ready : Ready m c) (fit : form_arguments known t (store_of m c) ≡ true) (d : State) where
+    pub right-none : {d' : State} → Working (deep_form known t) m m₁ c (ok (store_of m₁ d) none) → d' ≡ reasons_at d n → Working (right_form known t g l (pairs_view m.reasons n)) m m₁ c (ok (store_of m₁ d') unexpanded)
+    unfolding right_form
+    right-none w z = rw z (form-none known t ready fit d n (λ r. resolve_forms l r g (pairs_view m.reasons n)) h w)
 
-  pub right-some : {j : ℕ} {d : State} {m₂ : Lent} {r : List ℕ} {o : Out Stepped} → x ≡ deep.List j d → r ≡ first_words list j → (z : ℤ) → z ≡ g
-      → Working (resolve_forms l r z (pairs_view m₁.reasons n)) m₁ m₂ d o → Working (right_form known t g l (pairs_view m.reasons n)) m m₂ c o
-  unfolding right_form
-  right-some {j} {d} {m₂} {r} {o} e i z u v =
-      form-some list known t x ready fit w e (pairs_view m.reasons n) (λ r. resolve_forms l r g (pairs_view m.reasons n))
-      (subst (λ (rs : List (ℕ × ℕ)). Working (resolve_forms l (first_words list j) g rs) m₁ m₂ d o) (reasons-kept m m₁ c w.kept.store n h)
-      (subst (λ (y : List ℕ). Working (resolve_forms l y g (pairs_view m₁.reasons n)) m₁ m₂ d o) i (subst (λ (y : ℤ). Working (resolve_forms l r y (pairs_view m₁.reasons n)) m₁ m₂ d o) u v)))
+    pub right-some : (list : List ℕ) (j : ℕ) → Working (deep_form known t) m m₁ c (ok (store_of m₁ d) (some (first_words list j))) → {m₂ : Lent} {r : List ℕ} {o : Out Stepped} → r ≡ first_words list j → (z : ℤ) → z ≡ g
+        → Working (resolve_forms l r z (pairs_view m₁.reasons n)) m₁ m₂ d o → Working (right_form known t g l (pairs_view m.reasons n)) m m₂ c o
+    unfolding right_form
+    right-some list j w {m₂} {r} {o} i z u v =
+        form-some list known t ready fit j d w (pairs_view m.reasons n) (λ r. resolve_forms l r g (pairs_view m.reasons n))
+        (subst (λ (rs : List (ℕ × ℕ)). Working (resolve_forms l (first_words list j) g rs) m₁ m₂ d o) (reasons-kept m m₁ c w.kept.store n h)
+        (subst (λ (y : List ℕ). Working (resolve_forms l y g (pairs_view m₁.reasons n)) m₁ m₂ d o) i (subst (λ (y : ℤ). Working (resolve_forms l r y (pairs_view m₁.reasons n)) m₁ m₂ d o) u v)))
 
 -- THE WHOLE STEP
 
@@ -268,43 +255,39 @@ module _ (known : List ℕ) (e : ℕ) (g : ℤ) (m : Lent) (c : State) (ready : 
   unfolding step right_form resolve_forms
   step_from a b i j = rw (left_is a i) (rw (right_is b j) refl)
 
-  module _ {m₁ : Lent} (list : List ℕ) (x : DeepForm) (a b : ℕ) (i : a ≡ (term_at m.terms e).first) (j : b ≡ (term_at m.terms e).second) (w : Working (deep_form known a) m m₁ c (deepened x m₁ list)) where
+  module _ (a b : ℕ) (i : a ≡ (term_at m.terms e).first) (j : b ≡ (term_at m.terms e).second) where
     from : {m₂ : Lent} {o : Out Stepped} → Working (form_then known a (pairs_view m.reasons c.reasons) (λ l. right_form known b g l (pairs_view m.reasons c.reasons))) m m₂ c o → Working (step known e g) m m₂ c o
     from v = working_is (step_from a b i j) v
 
-    pub left-stop : {k : ℕ} → x ≡ deep.Refused k → Working (step known e g) m m₁ c (stop k)
-    left-stop q = from (form-stop list known a x ready (left-fits a i) w _ _ q)
+    pub left-stop : {m₁ : Lent} {k : ℕ} → Working (deep_form known a) m m₁ c (stop k) → Working (step known e g) m m₁ c (stop k)
+    left-stop w = from (form-stop known a _ _ w)
 
-    pub left-none : {d d' : State} → x ≡ deep.None d → d' ≡ reasons_at d c.reasons → Working (step known e g) m m₁ c (ok (store_of m₁ d') unexpanded)
-    left-none q z = from (rw z (form-none list known a x ready (left-fits a i) w c.reasons _ (omega arith) q))
+    pub left-none : {m₁ : Lent} (d : State) {d' : State} → Working (deep_form known a) m m₁ c (ok (store_of m₁ d) none) → d' ≡ reasons_at d c.reasons → Working (step known e g) m m₁ c (ok (store_of m₁ d') unexpanded)
+    left-none d w z = from (rw z (form-none known a ready (left-fits a i) d c.reasons _ (omega arith) w))
 
-    module _ {n : ℕ} {d : State} (q : x ≡ deep.List n d) where
+    module _ {m₁ : Lent} (list : List ℕ) (n : ℕ) (d : State) (w : Working (deep_form known a) m m₁ c (ok (store_of m₁ d) (some (first_words list n)))) where
       pub right-fits : form_arguments known b (store_of m₁ d) ≡ true
       right-fits =
-          both_true (is_list (store_of m₁ d) known) _ (form-keeps list known a x ready (left-fits a i) w q known (both_left (is_list s known) _ lists))
-          (form-string list known a x ready (left-fits a i) w q b (right-string b j))
+          both_true (is_list (store_of m₁ d) known) _ (form-keeps list known a ready (left-fits a i) n d w known (both_left (is_list s known) _ lists))
+          (form-string list known a ready (left-fits a i) n d w b (right-string b j))
 
       pub left-some : {m₂ : Lent} {l : List ℕ} {o : Out Stepped} → l ≡ first_words list n → (y : ℤ) → y ≡ g → Working (right_form known b y l (pairs_view m₁.reasons c.reasons)) m₁ m₂ d o → Working (step known e g) m m₂ c o
       left-some {m₂} {l} {o} z y u v =
-          from (form-some list known a x ready (left-fits a i) w q (pairs_view m.reasons c.reasons) (λ l. right_form known b g l (pairs_view m.reasons c.reasons))
+          from (form-some list known a ready (left-fits a i) n d w (pairs_view m.reasons c.reasons) (λ l. right_form known b g l (pairs_view m.reasons c.reasons))
           (subst (λ (rs : List (ℕ × ℕ)). Working (right_form known b g (first_words list n) rs) m₁ m₂ d o) (reasons-kept m m₁ c w.kept.store c.reasons (omega arith))
           (subst (λ (h : List ℕ). Working (right_form known b g h (pairs_view m₁.reasons c.reasons)) m₁ m₂ d o) z (subst (λ (h : ℤ). Working (right_form known b h l (pairs_view m₁.reasons c.reasons)) m₁ m₂ d o) u v))))
 
 -- THE PUBLIC CALL
 
--- wordeq's answer handed on is the step's
-pub stepped-cut : {l l' : List ℕ} {n : ℕ} (o : Outcome) {r r' : StepResult} → o ≡ Answered r → CutRefused unresolved l l' n r r' → CutRefused unstepped l l' n o (Answered r')
-stepped-cut o e p = record { same = ap Answered p.same ∙ sym e; given = λ q. p.given (sym (ap unstepped e) ∙ q); refused = λ q. p.refused (sym (ap unstepped e) ∙ q) }
-
 -- an answer handed on: after a refusal the index is cut
-pub undone-stepped : {t t' : List ℕ} (e h r ks : List ℕ) {n : ℕ} (l : List ℕ) (x : Outcome) {o : Outcome} → CutRefused unstepped t t' n x o → Undone (lent t e h r ks) (lent t' e h r ks) n (stepped x (lent t e h r ks) l) (stepped o (lent t' e h r ks) l)
-undone-stepped e h r ks l (Answered (Done d)) p = given _ _ refl (rw (p.same, p.given refl)) (ap (λ (w : List ℕ). lent w e h r ks) (p.given refl))
-undone-stepped e h r ks l (Answered (Saturated d)) p = given _ _ refl (rw (p.same, p.given refl)) (ap (λ (w : List ℕ). lent w e h r ks) (p.given refl))
-undone-stepped e h r ks l (Answered (Conflict d)) p = given _ _ refl (rw (p.same, p.given refl)) (ap (λ (w : List ℕ). lent w e h r ks) (p.given refl))
-undone-stepped e h r ks l (Answered (Propagate d v u f)) p = given _ _ refl (rw (p.same, p.given refl)) (ap (λ (w : List ℕ). lent w e h r ks) (p.given refl))
-undone-stepped e h r ks l (Answered (Split d k g i)) p = given _ _ refl (rw (p.same, p.given refl)) (ap (λ (w : List ℕ). lent w e h r ks) (p.given refl))
-undone-stepped e h r ks l (Answered (Refused j)) p = cut j refl (rw p.same) (p.refused refl) (record { cells = refl; chars = refl; reasons = refl; keys = refl })
-undone-stepped e h r ks l (Unexpanded d) p = given _ _ refl (rw (p.same, p.given refl)) (ap (λ (w : List ℕ). lent w e h r ks) (p.given refl))
+pub undone-stepped : {t t' : List ℕ} (e h r ks : List ℕ) {n : ℕ} (l : List ℕ) (x : Result Outcome Refusal) {o : Result Outcome Refusal} → CutRefused t t' n x o → Undone (lent t e h r ks) (lent t' e h r ks) n (stepped x (lent t e h r ks) l) (stepped o (lent t' e h r ks) l)
+undone-stepped e h r ks l (Ok (Answered (Done d))) p = given _ _ refl (rw (p.same, p.given refl)) (ap (λ (w : List ℕ). lent w e h r ks) (p.given refl))
+undone-stepped e h r ks l (Ok (Answered (Saturated d))) p = given _ _ refl (rw (p.same, p.given refl)) (ap (λ (w : List ℕ). lent w e h r ks) (p.given refl))
+undone-stepped e h r ks l (Ok (Answered (Conflict d))) p = given _ _ refl (rw (p.same, p.given refl)) (ap (λ (w : List ℕ). lent w e h r ks) (p.given refl))
+undone-stepped e h r ks l (Ok (Answered (Propagate d v u f))) p = given _ _ refl (rw (p.same, p.given refl)) (ap (λ (w : List ℕ). lent w e h r ks) (p.given refl))
+undone-stepped e h r ks l (Ok (Answered (Split d k g i))) p = given _ _ refl (rw (p.same, p.given refl)) (ap (λ (w : List ℕ). lent w e h r ks) (p.given refl))
+undone-stepped e h r ks l (Ok (Unexpanded d)) p = given _ _ refl (rw (p.same, p.given refl)) (ap (λ (w : List ℕ). lent w e h r ks) (p.given refl))
+undone-stepped e h r ks l (Err j) p = cut (number j) refl (rw p.same) (p.refused refl) (record { cells = refl; chars = refl; reasons = refl; keys = refl })
 
 module _ (known : List ℕ) (e : ℕ) (g : ℤ) (m : Lent) (c : State) (l : List ℕ) where
   pub call-short : length l < list_limit → PublicStep known e g m m l l c (stop 1)
@@ -341,32 +324,9 @@ module _ (known : List ℕ) (e : ℕ) (g : ℤ) (m : Lent) (c : State) (l : List
 
 -- THE ARGUMENTS
 
-module _ (l : List ℕ) (c : State) (known : List ℕ) (e : ℕ) (g : ℤ) (b : Bool) (i : b ≡ is_list (store_of (lent l [] [] [] []) c) known) where
-  abbrev here : Store
-  here = store_of (lent l [] [] [] []) c
-
-  pub steps_no_list : not b ≡ true → false ≡ step_arguments known e g here
-  steps_no_list n = sym (left_false _ _ (left_false _ _ (left_false _ _ (sym i ∙ not-true b n))))
-
-  module _ (n : not b ≡ false) (k : ℕ) (j : k ≡ kind here e) where
-    pub steps_no_equation : (k ≡ 5 → ⊥) → false ≡ step_arguments known e g here
-    steps_no_equation d = sym (left_false _ _ (left_false _ _ (right-false (is_list here known) _ (ne_eqb (kind here e) 5 (λ q. d (j ∙ q))))))
-
-    module _ (d : k ≡ 5) (a : ℕ) (p : a ≡ (term_at l e).first) (x : Bool) (q : x ≡ is_string here a) where
-      equation : is_equation here e ≡ true
-      equation = eq-eqb (kind here e) 5 (sym j ∙ d)
-
-      first_is : a ≡ (term here e).first
-      first_is = p ∙ ap (λ (y : Term). y.first) (sym (view_term l c.terms e (term-within (lent l [] [] [] []) c e (kind-term here e 4 (sym j ∙ d)))))
-
-      string-is : x ≡ is_string here (term here e).first
-      string-is = q ∙ ap (is_string here) first_is
-
-      both : is_list here known && is_equation here e ≡ true
-      both = both_true (is_list here known) _ (sym i ∙ not-false b n) equation
-
-      pub steps_no_string : not x ≡ true → false ≡ step_arguments known e g here
-      steps_no_string h = sym (left_false _ _ (right-false (is_list here known && is_equation here e) _ (sym string-is ∙ not-true x h)))
-
-      pub steps-last : not x ≡ false → (y : Bool) → y ≡ is_guard g → y ≡ step_arguments known e g here
-      steps-last h y z = and-next (is_list here known && is_equation here e && is_string here (term here e).first) (is_guard g) y (both_true (is_list here known && is_equation here e) _ both (sym string-is ∙ not-false x h)) z
+module _ (l : List ℕ) (c : State) (known : List ℕ) (e : ℕ) (v : Bool) (x : v ≡ (is_list (termed l c) known && is_equation (termed l c) e)) where
+  -- the side of an equation that is read
+  pub equation-first : v ≡ true → (a : ℕ) → a ≡ (term_at l e).first → (b : Bool) → b ≡ is_string (termed l c) a → b ≡ (v && is_string (termed l c) (term (termed l c) e).first)
+  equation-first h a p b q =
+      let i = eqb-true (kind (termed l c) e) 5 (both_right (is_list (termed l c) known) _ (sym x ∙ h)) in
+      rw h (q ∙ ap (is_string (termed l c)) (p ∙ ap (λ (y : Term). y.first) (sym (view_term l c.terms e (term-within (lent l [] [] [] []) c e (kind-term (termed l c) e 4 i))))))

@@ -4,7 +4,7 @@ use Rattle.records.specs.Store.{Work, ◌>>=◌}
 use Rattle.records.specs.View.{Slice, pairs_view, reasons_at}
 use Rattle.normalize.specs.Normalize.{deep_form}
 use Rattle.sides.specs.declared.StepResult.{StepResult}
-use Rattle.sides.specs.declared.StepResult.TheVariants.{Done, Saturated, Conflict, Propagate, Split, Refused}
+use Rattle.sides.specs.declared.StepResult.TheVariants.{Done, Saturated, Conflict, Propagate, Split}
 use Rattle.sides.specs.Wordeq.{resolve}
 use Rattle.equation.specs.Equation.{Stepped, returned, or_unexpanded}
 
@@ -25,4 +25,3 @@ carried n (Saturated c) = Saturated c
 carried n (Conflict c) = Conflict c
 carried n (Propagate c v w f) = Propagate c v w f
 carried n (Split c j g i) = Split c j g i
-carried n (Refused k) = Refused k

@@ -1,6 +1,7 @@
 -- Each way through the functions of the forced length: one variable class, the form of the two sides, what fits between them, the call.
+use Rattle.std.specs.Prelude.{Ok}
 use mathlib.Core.Path.{◌≡◌, refl, sym, ap, ◌∙◌}
-use mathlib.Core.Bool.{Bool, true, false, not, ◌&&◌}
+use mathlib.Core.Bool.{Bool, true, false, ◌&&◌}
 use mathlib.Core.List.{List, [], ◌∷◌}
 use Prim.Native.Nat.{ℕ, suc, ◌+◌, ◌-◌, ◌*◌, ◌^◌, ◌/◌, ◌%◌, ◌≤◌, ◌<◌}
 use native.Mathlib.Numerals.{add-one}
@@ -8,7 +9,7 @@ use native.Mathlib.Omega.{arith}
 use lib.ListN.{length, get_or, drop, length-take, length-drop}
 use lib.Seq.{take_all}
 use lib.Dec.{ltb}
-use borrow.Author.Tests.{not-true, not-false, lt-ltb, le-leb, le-ltb}
+use borrow.Author.Tests.{lt-ltb, le-leb, le-ltb}
 use Rattle.records.specs.declared.State.{State}
 use Rattle.records.specs.Lists.{all}
 use Rattle.records.specs.Store.{Store, Out, ok, stop, and_then, ◌>>=◌, is_string}
@@ -16,10 +17,12 @@ use Rattle.records.specs.View.{char_limit, Lent, store_of, read_in, termed}
 use Rattle.records.specs.Rules.{audit, list_limit, is_list}
 use Rattle.records.specs.Working.Doing.{Working}
 use Rattle.records.specs.Working.Audited.{Ready}
-use Rattle.records.proofs.Lists.{table-length, both_left, both_right, both_true, and-stop, and-next, failed, passed, every_at, all_take, all_drop}
+use Rattle.records.proofs.Lists.{table-length, both_left, both_right, both_true, and-stop, and-next, every_at, all_take, all_drop}
 use Rattle.records.proofs.ListLaws.{list-short, list-strings, list_every}
-use Rattle.records.proofs.Public.{call_unready, call-unfit, call_still, passed-ready}
+use Rattle.records.proofs.Public.{numbered, call_unready, call-unfit, call_still, passed-ready}
 use Rattle.records.proofs.Works.{stop-not}
+use Rattle.records.specs.declared.refusal.Refusal.{Refusal}
+use Rattle.records.specs.Refusal.{number}
 use Rattle.records.proofs.IndexStores.{keeps_same}
 use Rattle.records.proofs.Doing.{working_same, working_stopped, working_at, working_is}
 use Rattle.normalize.specs.Normalize.{flatten}
@@ -33,7 +36,7 @@ use Rattle.sides.proofs.Residual.{variables-from, variables-none, agree-variable
 use Rattle.forced.specs.declared.Forced.{Forced}
 use Rattle.forced.specs.declared.Forced.TheVariants as forced
 use Rattle.forced.specs.Forced.{spans, short, Fit, fit_of, one_class, is_forced, side_fit, sides_fit, residual_fit, forced_length}
-use Rattle.forced.specs.Calls.{fitted, PublicForced}
+use Rattle.forced.specs.Calls.{measured, fitted, PublicForced}
 use Rattle.forced.proofs.Unfit.{some_variable}
 use Rattle.forced.proofs.ForcedLength.{forces, forced_few}
 
@@ -73,13 +76,13 @@ module _ (t h : List ℕ) (c : State) (side : List ℕ) (i : ℕ) (x : FirstVari
 -- THE FORM
 
 module _ (t h : List ℕ) (c : State) (word side : List ℕ) (b : Bool) (e : b ≡ fixed (termed t c) word) where
-  pub form-not : not b ≡ true → false ≡ is_forced (read_in t h c) word side
+  pub form-not : b ≡ false → b ≡ is_forced (read_in t h c) word side
   unfolding fixed
-  form-not n = and-stop _ _ (failed _ b e n)
+  form-not n = n ∙ and-stop _ _ (sym e ∙ n)
 
-  pub form-is : not b ≡ false → (x : Bool) → x ≡ one_class (read_in t h c) (variables (read_in t h c) side) → x ≡ is_forced (read_in t h c) word side
+  pub form-is : b ≡ true → (x : Bool) → x ≡ one_class (read_in t h c) (variables (read_in t h c) side) → x ≡ is_forced (read_in t h c) word side
   unfolding fixed
-  form-is n x q = and-next _ _ x (passed _ b e n) q
+  form-is n x q = and-next _ _ x (sym e ∙ n) q
 
 -- THE FIT
 
@@ -93,28 +96,22 @@ module _ (t h : List ℕ) (c : State) (x : Readable t h c) (word side : List ℕ
       ∙ ap (λ (y : ℕ). fit_of (length (variables s₁ side)) y l) (q ∙ letters-read t h c x side)
       ∙ ap (λ (y : ℕ). fit_of (length (variables s₁ side)) (length (letters s₁ side)) y) (r ∙ letters-read t h c x word)
 
-  pub fit-short : l < n → fitted (forced.Shortage k n l (n - l)) s₁ ≡ ok s₁ (side_fit s₁ word side)
-  fit-short z = is (lt-ltb l n z) ∙ ap (ok s₁) counted
+  pub fit-short : l < n → measured (forced.Shortage k n l (n - l)) ≡ side_fit s₁ word side
+  fit-short z = is (lt-ltb l n z) ∙ counted
     where
-      is : ltb l n ≡ true → fitted (forced.Shortage k n l (n - l)) s₁ ≡ ok s₁ (fit_of k n l)
+      is : ltb l n ≡ true → measured (forced.Shortage k n l (n - l)) ≡ fit_of k n l
       is e = rw e
 
-  pub fit-spans : n ≤ l → fitted (forced.Spans k n l ((l - n) / k) ((l - n) % k)) s₁ ≡ ok s₁ (side_fit s₁ word side)
-  fit-spans z = is (le-ltb l n z) ∙ ap (ok s₁) counted
+  pub fit-spans : n ≤ l → measured (forced.Spans k n l ((l - n) / k) ((l - n) % k)) ≡ side_fit s₁ word side
+  fit-spans z = is (le-ltb l n z) ∙ counted
     where
-      is : ltb l n ≡ false → fitted (forced.Spans k n l ((l - n) / k) ((l - n) % k)) s₁ ≡ ok s₁ (fit_of k n l)
+      is : ltb l n ≡ false → measured (forced.Spans k n l ((l - n) / k) ((l - n) % k)) ≡ fit_of k n l
       is e = rw e
 
   pub some-counted : is_forced s₁ word side ≡ true → 0 < k
   some-counted f = (let a = some_variable s₁ word side f in let b : k ≡ length (variables s₁ side) = p in omega arith)
 
 -- THE TWO SIDES
-
--- the answer on another store
-fitted-on : (o : Forced) (s t : Store) (x : Fit) → fitted o s ≡ ok s x → fitted o t ≡ ok t x
-fitted-on (forced.Spans k c l m r) s t x e = (let z : record { k = k; c = c; l = l; span = spans m r } ≡ x = cc in ap (ok t) z)
-fitted-on (forced.Shortage k c l d) s t x e = (let z : record { k = k; c = c; l = l; span = short d } ≡ x = cc in ap (ok t) z)
-fitted-on (forced.Refused j) s t x e = stop-not e
 
 module _ (m : Lent) (c : State) where
   abbrev whole : Store
@@ -136,16 +133,16 @@ module _ (m : Lent) (c : State) where
   unfolding letters letters_of
   fit_read_lem l r = refl
 
-  says-read : (l r : List ℕ) (o : Forced) → fitted o read ≡ ok read (side_fit read l r) → ok whole (side_fit whole l r) ≡ fitted o whole
-  says-read l r o w = sym (fitted-on o read whole (side_fit whole l r) (w ∙ ap (ok read) (fit_read_lem l r)))
+  says-read : (l r : List ℕ) (o : Forced) → measured o ≡ side_fit read l r → ok whole (side_fit whole l r) ≡ fitted (Ok o) whole
+  says-read l r o w = ap (ok whole) (sym (w ∙ fit_read_lem l r))
 
   module _ (l r : List ℕ) (b : Bool) (i : b ≡ is_forced read l r) where
-    pub sides-left : Ready m c → b ≡ true → (o : Forced) → fitted o read ≡ ok read (side_fit read l r) → Working (sides_fit l r) m m c (fitted o whole)
+    pub sides-left : Ready m c → b ≡ true → (o : Forced) → measured o ≡ side_fit read l r → Working (sides_fit l r) m m c (fitted (Ok o) whole)
     unfolding sides_fit
     sides-left ready h o w = working_at (says-read l r o w) (working_same ready (rw (sym (form_read_lem l r) ∙ sym i ∙ h)))
 
     module _ (h : b ≡ false) (x : Bool) (j : x ≡ is_forced read r l) where
-      pub sides-right : Ready m c → x ≡ true → (o : Forced) → fitted o read ≡ ok read (side_fit read r l) → Working (sides_fit l r) m m c (fitted o whole)
+      pub sides-right : Ready m c → x ≡ true → (o : Forced) → measured o ≡ side_fit read r l → Working (sides_fit l r) m m c (fitted (Ok o) whole)
       unfolding sides_fit
       sides-right ready q o w = working_at (says-read r l o w) (working_same ready (rw (sym (form_read_lem l r) ∙ sym i ∙ h, sym (form_read_lem r l) ∙ sym j ∙ q)))
 
@@ -203,12 +200,12 @@ module _ (l r : List ℕ) (m : Lent) (c : State) (j : ℕ) (v : j ≡ audit m c)
   forced_unready d = record { is = call_unready (equal_arguments l r) (forced_length l r) m c j v d; still = refl; worth = λ s' x e. stop-not e; few = λ s' x e. stop-not e }
 
   module _ (z : j ≡ 0) (b : Bool) (i : b ≡ equal_arguments l r (store_of m c)) where
-    pub forced-unfit : not b ≡ true → PublicForced l r m m c (stop 5)
-    forced-unfit f = record { is = call-unfit (equal_arguments l r) (forced_length l r) m c j v z b i (not-true b f); still = refl; worth = λ s' x e. stop-not e; few = λ s' x e. stop-not e }
+    pub forced-unfit : b ≡ false → PublicForced l r m m c (stop 5)
+    forced-unfit f = record { is = call-unfit (equal_arguments l r) (forced_length l r) m c j v z b i f; still = refl; worth = λ s' x e. stop-not e; few = λ s' x e. stop-not e }
 
-    module _ (f : not b ≡ false) where
+    module _ (f : b ≡ true) where
       fit : equal_arguments l r (store_of m c) ≡ true
-      fit = sym i ∙ not-false b f
+      fit = sym i ∙ f
 
       pub forced-ready : Ready m c
       forced-ready = passed-ready m c j v z
@@ -218,7 +215,7 @@ module _ (l r : List ℕ) (m : Lent) (c : State) (j : ℕ) (v : j ≡ audit m c)
 
       pub forced_called : {o : Out Fit} → Working (forced_length l r) m m c o → PublicForced l r m m c o
       forced_called w = record {
-        is = call_still (equal_arguments l r) (forced_length l r) m c j v z b i (not-false b f) w;
+        is = call_still (equal_arguments l r) (forced_length l r) m c j v z b i f w;
         still = refl;
         worth = λ s' x e. forces l r (store_of m c) forced-ready.audited (list-strings (store_of m c) l forced-lists.left) (list-strings (store_of m c) r forced-lists.right) s' x (w.says ∙ e);
         few = λ s' x e. forced_few (store_of m c) chars-few l r s' x (w.says ∙ e);
@@ -226,3 +223,7 @@ module _ (l r : List ℕ) (m : Lent) (c : State) (j : ℕ) (v : j ≡ audit m c)
         where
           chars-few : length (store_of m c).chars ≤ char_limit
           chars-few = (let a = table-length (λ i. get_or m.chars i 0) c.chars in let b = forced-ready.sized.char_limited in omega arith)
+
+-- the same of what the audit answers as a Result
+pub forced_refused : (l r : List ℕ) (m : Lent) (c : State) (e : Refusal) → number e ≡ audit m c → PublicForced l r m m c (stop (number e))
+forced_refused l r m c e v = forced_unready l r m c (number e) v (numbered e)

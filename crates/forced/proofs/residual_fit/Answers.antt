@@ -12,8 +12,8 @@ find_rest_unchecked-rest-requires c =
           c.args.c c.args.rhs.now c.requires.both_lists.right;
     }
 
-pub offset_bounds-lhs-from : goal.offset_bounds-lhs-from
-offset_bounds-lhs-from c =
+pub offset_bounds-lhs-rest : goal.offset_bounds-lhs-rest
+offset_bounds-lhs-rest c =
     record { fits = place-fits (lent c.args.terms.now c.args.cells.now c.args.chars.now c.args.reasons.now c.args.keys.now) c.args.c c.args.lhs.now _ _ c.requires.both_lists.left c.find_rest_unchecked-rest.ensures.inside.0 c.find_rest_unchecked-rest.ensures.inside.1 }
 
 pub slice_bounds-left-count : goal.slice_bounds-left-count
@@ -28,8 +28,8 @@ pub slice_bounds-left-end : goal.slice_bounds-left-end
 slice_bounds-left-end c =
     c.find_rest_unchecked-rest.ensures.inside.1
 
-pub offset_bounds-rhs-from : goal.offset_bounds-rhs-from
-offset_bounds-rhs-from c =
+pub offset_bounds-rhs-rest : goal.offset_bounds-rhs-rest
+offset_bounds-rhs-rest c =
     record { fits = place-fits (lent c.args.terms.now c.args.cells.now c.args.chars.now c.args.reasons.now c.args.keys.now) c.args.c c.args.rhs.now _ _ c.requires.both_lists.right c.find_rest_unchecked-rest.ensures.inside.2 c.find_rest_unchecked-rest.ensures.inside.3 }
 
 pub slice_bounds-right-count : goal.slice_bounds-right-count

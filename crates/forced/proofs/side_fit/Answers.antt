@@ -25,16 +25,16 @@ returns-then-l-n c =
 pub nonzero_div-result : goal.nonzero_div-result
 nonzero_div-result c =
     (let k = some-counted c.args.terms.now c.args.chars.now c.args.c c.requires.readable c.args.word.now c.args.side.now _
-    _ _ c.variables_length-k.ensures c.letters_length_unchecked-n.ensures c.letters_length_unchecked-l.ensures c.requires.side_value in
+    _ _ c.variables_length-k.ensures c.letters_length_unchecked-n.ensures c.letters_length_unchecked-l.ensures c.requires.is_forced in
     omega arith)
 
 pub nonzero_rem-result : goal.nonzero_rem-result
 nonzero_rem-result c =
     (let k = some-counted c.args.terms.now c.args.chars.now c.args.c c.requires.readable c.args.word.now c.args.side.now _
-    _ _ c.variables_length-k.ensures c.letters_length_unchecked-n.ensures c.letters_length_unchecked-l.ensures c.requires.side_value in
+    _ _ c.variables_length-k.ensures c.letters_length_unchecked-n.ensures c.letters_length_unchecked-l.ensures c.requires.is_forced in
     omega arith)
 
-pub returns : goal.returns
-returns c =
+pub returns-else-l-n : goal.returns-else-l-n
+returns-else-l-n c =
     fit-spans c.args.terms.now c.args.chars.now c.args.c c.requires.readable c.args.word.now c.args.side.now _ _ _
     c.variables_length-k.ensures c.letters_length_unchecked-n.ensures c.letters_length_unchecked-l.ensures c.if-l-n.false

@@ -1,95 +1,76 @@
 -- The ways of expanding an atom, and of the loop over a round's list.
-use Rattle.std.specs.Prelude.{if◌then◌else◌}
+use Rattle.std.specs.Prelude.{Result, Ok, Err, Some, None, if◌then◌else◌}
+use Rattle.std.specs.Prelude as code
 use mathlib.Core.Path.{◌≡◌, refl, sym, ap, subst, ◌∙◌}
-use mathlib.Core.Bool.{Bool, true, false, not}
+use mathlib.Core.Bool.{Bool, true, false}
 use mathlib.Core.List.{List, [], ◌∷◌, ◌++◌}
 use mathlib.Core.Option.{Option, none, some}
 use Prim.Native.Nat.{ℕ, suc, ◌+◌, ◌*◌, ◌≤◌, ◌<◌}
 use native.Mathlib.Numerals.{add-one}
 use native.Mathlib.Omega.{arith}
-use lib.ListN.{length, drop, get_or, set, length-set, length-append, drop_of_length-le}
-use lib.Seq.{drop-cons, get_or-set_same, get_or-set_other}
-use lib.Dec.{eqb, ltb}
-use borrow.Author.Tests.{eqb-true, eqb-false, eq-eqb, ne_eqb, ltb-false, lt-ltb, le-ltb, not-true, not-false}
+use lib.ListN.{replicate, length, take, drop, get_or, set, length-set, length-append, drop_of_length-le}
+use lib.Seq.{drop-cons, length-take-le, get_or-set_same, get_or-set_other}
+use lib.Dec.{eqb, ltb, lit≤}
+use borrow.Author.Tests.{eqb-true, eqb-false, eq-eqb, ne_eqb, ltb-false, lt-ltb, le-ltb}
 use Rattle.records.specs.declared.State.{State}
+use Rattle.records.specs.declared.refusal.Refusal.{Refusal}
 use Rattle.records.specs.Lists.{all, any, is_in, none_left, and}
-use Rattle.records.specs.Store.{Term, Store, Out, ok, stop, Work, and_then, give, count, term_in, is_string}
+use Rattle.records.specs.Store.{Store, Out, ok, stop, Work, and_then, give, count, is_string}
 use Rattle.records.specs.View.{Lent, store_of, term_limit}
 use Rattle.records.specs.Working.Audited.{Ready}
 use Rattle.records.specs.Working.Doing.{Working}
-use Rattle.records.proofs.Lists.{decide, left_false, all_every, every_all, every_at, table_at_lem, within-high}
+use Rattle.records.proofs.Lists.{decide, all_every, every_all, every_at, within-high}
 use Rattle.records.proofs.Works.{via}
 use Rattle.records.proofs.Grown.{string-term, Strings, strings-later}
 use Rattle.records.proofs.Climbs.{view_count}
 use Rattle.records.proofs.IndexStores.{keeps_same}
-use Rattle.records.proofs.Doing.{working_at, ready_for, working_left}
+use Rattle.records.proofs.Doing.{ready_for, working_left}
 use Rattle.records.proofs.Sequence.{working_stop}
-use Rattle.normalize.specs.declared.Form.{Form}
-use Rattle.normalize.specs.declared.Form.TheVariants as form
-use Rattle.normalize.specs.declared.DeepForm.{DeepForm}
-use Rattle.normalize.specs.declared.DeepForm.TheVariants as deep
 use Rattle.normalize.specs.Normalize.{deep_limit, normal_form, opens, Round, expand}
 use Rattle.records.specs.Rules.{list_limit}
 use Rattle.normalize.specs.Working.Pushes.{Candidates}
-use Rattle.normalize.specs.Calls.{first_words, formed, deepened}
-use Rattle.normalize.specs.Working.Deeps.{opens_in, Met, RoundOf, expand_atom, expanded, ExpandedTo, Expands}
+use Rattle.normalize.specs.Calls.{first_words, deepened}
+use Rattle.normalize.specs.Working.Deeps.{opens_in, Met, MetTable, RoundOf, expand_atom, expanded, ExpandedTo, Expands}
 use Rattle.normalize.proofs.Rewritten.{Rewritten}
 use Rattle.normalize.proofs.Formed.{form-ends}
 use Rattle.normalize.proofs.Deep.{expand-ends}
 use Rattle.normalize.proofs.Carried.{Carried, carried_none, carried-kept, carried-then}
 use Rattle.normalize.proofs.Candidates.{candidates_later}
-use Rattle.normalize.proofs.Refines.Words.{words-length, words-none, words-put}
-
--- WHAT IS EXPANDED
-
-module _ (ts : List Term) (t a k : ℕ) (e : k ≡ (term_in ts a).kind) where
-  pub opens-other : (k ≡ 3 → ⊥) → false ≡ opens_in ts t a
-  opens-other d = sym (left_false _ _ (ne_eqb (term_in ts a).kind 3 (λ q. d (e ∙ q))))
-
-  pub opens-concat : k ≡ 3 → not (eqb a t) ≡ opens_in ts t a
-  opens-concat d = rw (eq-eqb (term_in ts a).kind 3 (sym e ∙ d))
+use Rattle.normalize.proofs.Refines.Words.{words-length, words-none, words-put, words-take, words-whole}
 
 -- ONE EXPANSION
 
-module _ {m m' : Lent} {c : State} (ready : Ready m c) (known table : List ℕ) (k : Candidates (store_of m c) known table) (a : ℕ) (i : is_string (store_of m c) a ≡ true) (x : Form) (list : List ℕ)
-    (w : Working (normal_form known a) m m' c (formed x m' list)) (next : List ℕ) (j : ℕ) where
-  abbrev s : Store
-  s = store_of m c
-
+module _ (known : List ℕ) (a : ℕ) (next : List ℕ) (j : ℕ) where
   abbrev so : List ℕ
   so = first_words next j
-
-  form-is : (y : Form) → x ≡ y → Working (normal_form known a) m m' c (formed y m' list)
-  form-is y e = working_at (ap (λ (z : Form). formed z m' list) e) w
 
   -- after the list so far, where it is not too long
   rest : List ℕ → Work (Option (List ℕ))
   rest f = if ltb deep_limit (length (so ++ f)) then give none else give (some (so ++ f))
 
-  pub form-short : (n : ℕ) (d : State) → x ≡ form.List n d → n ≤ list_limit
-  form-short n d e =
-      let f = (form-ends known a s ready.audited (all_every (is_string s) known k.strings) i).given (store_of m' d) (first_words list n) (form-is (form.List n d) e).says in
-      let l = f.long in
-      let z = words-length list n in omega arith
-
-  long_is : (n : ℕ) → length (so ++ first_words list n) ≡ j + n
-  long_is n = length-append so (first_words list n) ∙ (let p = words-length next j in let q = words-length list n in omega arith)
-
-  pub atom-none : (n : ℕ) (d : State) → x ≡ form.List n d → deep_limit < j + n → Working (expand_atom known a so) m m' c (ok (store_of m' d) none)
+  pub atom-stopped : {m m' : Lent} {c : State} {n : ℕ} → Working (normal_form known a) m m' c (stop n) → Working (expand_atom known a so) m m' c (stop n)
   unfolding expand_atom rest
-  atom-none n d e h =
-      let v = form-is (form.List n d) e in
-      working_left (v.ready d _ refl) (ap (and_then rest) v.says ∙ rw (lt-ltb deep_limit (length (so ++ first_words list n)) (let z = long_is n in omega arith))) v.kept
+  atom-stopped w = working_stop rest w
 
-  pub atom-some : (n : ℕ) (d : State) (next' : List ℕ) → x ≡ form.List n d → j + n ≤ deep_limit → first_words next' (j + n) ≡ so ++ first_words list n → Working (expand_atom known a so) m m' c (ok (store_of m' d) (some (first_words next' (j + n))))
-  unfolding expand_atom rest
-  atom-some n d next' e h q =
-      let v = form-is (form.List n d) e in
-      working_left (v.ready d _ refl) (ap (and_then rest) v.says ∙ rw (le-ltb deep_limit (length (so ++ first_words list n)) (let z = long_is n in omega arith), q)) v.kept
+  module _ {m m' : Lent} {c : State} (list : List ℕ) (n : ℕ) (d : State) (w : Working (normal_form known a) m m' c (ok (store_of m' d) (first_words list n))) where
+    pub form-short : Ready m c → (table : List ℕ) → Candidates (store_of m c) known table → is_string (store_of m c) a ≡ true → n ≤ list_limit
+    form-short ready table k i =
+        let f = (form-ends known a (store_of m c) ready.audited (all_every (is_string (store_of m c)) known k.strings) i).given (store_of m' d) (first_words list n) w.says in
+        let l = f.long in
+        let z = words-length list n in omega arith
 
-  pub atom-stopped : (n : ℕ) → x ≡ form.Refused n → Working (expand_atom known a so) m m' c (stop n)
-  unfolding expand_atom rest
-  atom-stopped n e = working_stop rest (form-is (form.Refused n) e)
+    long_is : length (so ++ first_words list n) ≡ j + n
+    long_is = length-append so (first_words list n) ∙ (let p = words-length next j in let q = words-length list n in omega arith)
+
+    pub atom-none : deep_limit < j + n → Working (expand_atom known a so) m m' c (ok (store_of m' d) none)
+    unfolding expand_atom rest
+    atom-none h =
+        working_left (w.ready d _ refl) (ap (and_then rest) w.says ∙ rw (lt-ltb deep_limit (length (so ++ first_words list n)) (let z = long_is in omega arith))) w.kept
+
+    pub atom-some : (next' : List ℕ) → j + n ≤ deep_limit → first_words next' (j + n) ≡ so ++ first_words list n → Working (expand_atom known a so) m m' c (ok (store_of m' d) (some (first_words next' (j + n))))
+    unfolding expand_atom rest
+    atom-some next' h q =
+        working_left (w.ready d _ refl) (ap (and_then rest) w.says ∙ rw (le-ltb deep_limit (length (so ++ first_words list n)) (let z = long_is in omega arith), q)) w.kept
 
 -- what it answers has 256 atoms at most
 atom-length : (known : List ℕ) (a : ℕ) (l : List ℕ) (s s' : Store) (l' : List ℕ) → expand_atom known a l s ≡ ok s' (some l') → length l' ≤ deep_limit
@@ -146,10 +127,14 @@ module _ (known : List ℕ) (t a : ℕ) (s : Store) where
         go (ok s₁ f) = inner s₁ f (ltb deep_limit (length (r.list ++ f)))
         go (stop n) = refl
 
-no_list : {X : Type 0} {c : State} {n : ℕ} {d : State} → deep.None c ≡ deep.List n d → X
-no_list e = let z : ◌≡◌ {A = ℕ} 0 1 = cc in absurd (omega arith)
+-- what gives no list
+no_list : {X : Type 0} {c : State} {n : ℕ} {d : State} → ◌≡◌ {A = Result (code.Option ℕ × State) Refusal} (Ok (None, c)) (Ok (Some n, d)) → X
+no_list {c = c} {n = n} {d = d} e =
+    let p : ◌≡◌ {A = code.Option ℕ × State} (None, c) (Some n, d) = cc in
+    let q : ◌≡◌ {A = code.Option ℕ} None (Some n) = ap (λ (x : code.Option ℕ × State). x.0) p in
+    let z : ◌≡◌ {A = ℕ} 0 1 = cc in absurd (omega arith)
 
-no_refusal : {X : Type 0} {j : ℕ} {n : ℕ} {d : State} → deep.Refused j ≡ deep.List n d → X
+no_refusal : {X : Type 0} {j : Refusal} {n : ℕ} {d : State} → ◌≡◌ {A = Result (code.Option ℕ × State) Refusal} (Err j) (Ok (Some n, d)) → X
 no_refusal e = let z : ◌≡◌ {A = ℕ} 0 1 = cc in absurd (omega arith)
 
 module _ {m : Lent} {c : State} (ready : Ready m c) (known : List ℕ) (t a : ℕ) (i : is_string (store_of m c) a ≡ true) (next : List ℕ) (k : ℕ) (table : List ℕ) (b : Bool) (e : b ≡ opens_in (store_of m c).terms t a) where
@@ -162,26 +147,26 @@ module _ {m : Lent} {c : State} (ready : Ready m c) (known : List ℕ) (t a : �
       let z = view_count m.terms c.terms in
       let y = ready.sized.term_limited in omega arith
 
-  pub one_plain : not b ≡ true → k < length next → Expands known t (a ∷ []) next k table m m c (set next k a) table (deep.List (k + 1) c)
+  pub one_plain : b ≡ false → k < length next → Expands known t (a ∷ []) next k table m m c (set next k a) table (Ok (Some (k + 1), c))
   one_plain h l = record {
     kept = keeps_same;
     ready = ready_for ready;
     is = λ met q. record {
       met = met;
-      is = expand-plain known t a st (record { list = first_words next k; met = met }) (sym e ∙ not-true b h)
+      is = expand-plain known t a st (record { list = first_words next k; met = met }) (sym e ∙ h)
           ∙ ap (λ (w : List ℕ). ok st (some (record { list = w; met = met }))) (sym (words-put next k a l) ∙ ap (first_words (set next k a)) (sym (add-one k)));
       tells = λ n d z. q;
     };
   }
 
-  module _ (h : not b ≡ false) where
+  module _ (h : b ≡ true) where
     opened : opens st t a ≡ true
-    opened = sym e ∙ not-false b h
+    opened = sym e ∙ h
 
     met-is : (met : List ℕ) → Met table met → is_in a met ≡ eqb (get_or table a 0) 1
     met-is met q = sym (q.tells a atom-place)
 
-    pub one_again : get_or table a 0 ≡ 1 → Expands known t (a ∷ []) next k table m m c next table (deep.None c)
+    pub one_again : get_or table a 0 ≡ 1 → Expands known t (a ∷ []) next k table m m c next table (Ok (None, c))
     one_again d = record {
       kept = keeps_same;
       ready = ready_for ready;
@@ -192,7 +177,7 @@ module _ {m : Lent} {c : State} (ready : Ready m c) (known : List ℕ) (t a : �
       };
     }
 
-    pub one-opened : (get_or table a 0 ≡ 1 → ⊥) → {m' : Lent} (x : DeepForm) (next' : List ℕ) → Working (expand_atom known a (first_words next k)) m m' c (deepened x m' next') → Expands known t (a ∷ []) next k table m m' c next' (set table a 1) x
+    pub one-opened : (get_or table a 0 ≡ 1 → ⊥) → {m' : Lent} (x : Result (code.Option ℕ × State) Refusal) (next' : List ℕ) → Working (expand_atom known a (first_words next k)) m m' c (deepened x m' next') → Expands known t (a ∷ []) next k table m m' c next' (set table a 1) x
     one-opened d {m'} x next' w = record {
       kept = w.kept;
       ready = w.ready;
@@ -203,10 +188,10 @@ module _ {m : Lent} {c : State} (ready : Ready m c) (known : List ℕ) (t a : �
       };
     }
       where
-        turned : (met : List ℕ) (y : DeepForm) → and_then (as_round known t a st (a ∷ met)) (deepened y m' next') ≡ expanded y (a ∷ met) m' next'
-        turned met (deep.List n f) = refl
-        turned met (deep.None f) = refl
-        turned met (deep.Refused n) = refl
+        turned : (met : List ℕ) (y : Result (code.Option ℕ × State) Refusal) → and_then (as_round known t a st (a ∷ met)) (deepened y m' next') ≡ expanded y (a ∷ met) m' next'
+        turned met (Ok (Some n, f)) = refl
+        turned met (Ok (None, f)) = refl
+        turned met (Err e) = refl
 
 -- THE LOOP OVER A ROUND'S LIST
 
@@ -284,9 +269,9 @@ walking_none {m} {c} known t l next table r = record {
   rest = λ met q. record { now = met; tells = q; is = refl };
 }
 
-module _ (list : List ℕ) (count' : ℕ) {known : List ℕ} {t : ℕ} {next₀ table₀ : List ℕ} {m₀ m : Lent} {c d : State} {next : List ℕ} {k : ℕ} {table : List ℕ} {i : ℕ}
-    (g : Walking known t (first_words list count') next₀ table₀ m₀ c m d next k table i) (nodes : List ℕ) (cs : Candidates (store_of m₀ c) known nodes)
-    (o : RoundOf (store_of m₀ c) list count' table₀ next₀) (h : i < count') where
+module _ (list : List ℕ) {known : List ℕ} {t : ℕ} {next₀ table₀ : List ℕ} {m₀ m : Lent} {c d : State} {next : List ℕ} {k : ℕ} {table : List ℕ} {i : ℕ}
+    (g : Walking known t list next₀ table₀ m₀ c m d next k table i) (nodes : List ℕ) (cs : Candidates (store_of m₀ c) known nodes)
+    (o : RoundOf (store_of m₀ c) list (length list) table₀ next₀) (h : i < length list) where
   abbrev sw : Store
   sw = store_of m d
 
@@ -296,102 +281,113 @@ module _ (list : List ℕ) (count' : ℕ) {known : List ℕ} {t : ℕ} {next₀ 
   pub walk_candidates : Candidates sw known nodes
   walk_candidates = candidates_later cs g.carried.later
 
-  at_is : get_or (first_words list count') i 0 ≡ at
-  at_is = table_at_lem (λ j. get_or list j 0) count' i 0 h
-
-  inside : i < length (first_words list count')
-  inside = let z = words-length list count' in omega arith
-
-  left_is : drop i (first_words list count') ≡ at ∷ drop (suc i) (first_words list count')
-  left_is = drop-cons (first_words list count') i 0 inside ∙ ap (λ (x : ℕ). x ∷ drop (suc i) (first_words list count')) at_is
+  left_is : drop i list ≡ at ∷ drop (suc i) list
+  left_is = drop-cons list i 0 h
 
   pub walk-string : is_string sw at ≡ true
-  walk-string = subst (λ (x : ℕ). is_string sw x ≡ true) at_is (every_at (first_words list count') i 0 (strings-later g.carried.later.grown (all_every (is_string (store_of m₀ c)) _ o.strings)) inside)
+  walk-string = every_at list i 0 (strings-later g.carried.later.grown (all_every (is_string (store_of m₀ c)) _ (rw (words-whole list) at o.strings))) h
 
-  pub walk-low : k < 2 * deep_limit
-  walk-low = let l = g.low in let s = o.short in omega arith
-
-  module _ {m' : Lent} (next' table' : List ℕ) (x : DeepForm) (w : Expands known t (at ∷ []) next k table m m' d next' table' x) where
+  module _ {m' : Lent} (next' table' : List ℕ) (x : Result (code.Option ℕ × State) Refusal) (w : Expands known t (at ∷ []) next k table m m' d next' table' x) where
     one : (met : List ℕ) (z : Met table₀ met) → ExpandedTo (expand known t (at ∷ []) (record { list = first_words next k; met = (g.rest met z).now }) sw) m' next' table' x
     one met z = w.is (g.rest met z).now (g.rest met z).tells
 
-    one-says : (met : List ℕ) (z : Met table₀ met) (y : DeepForm) → x ≡ y → expand known t (at ∷ []) (record { list = first_words next k; met = (g.rest met z).now }) sw ≡ expanded y (one met z).met m' next'
-    one-says met z y e = (one met z).is ∙ ap (λ (u : DeepForm). expanded u (one met z).met m' next') e
-
-    rest-says : (met : List ℕ) (z : Met table₀ met) (y : DeepForm) → x ≡ y
-        → and_then (next_round (expand known t (drop (suc i) (first_words list count')))) (expanded y (one met z).met m' next') ≡ expand known t (first_words list count') (record { list = first_words next₀ 0; met = met }) (store_of m₀ c)
-    rest-says met z y e =
-        ap (and_then (next_round (expand known t (drop (suc i) (first_words list count'))))) (sym (one-says met z y e))
-        ∙ sym (expand-step known t at (drop (suc i) (first_words list count')) (record { list = first_words next k; met = (g.rest met z).now }) sw)
+    rest-says : (met : List ℕ) (z : Met table₀ met)
+        → and_then (next_round (expand known t (drop (suc i) list))) (expanded x (one met z).met m' next') ≡ expand known t list (record { list = first_words next₀ 0; met = met }) (store_of m₀ c)
+    rest-says met z =
+        ap (and_then (next_round (expand known t (drop (suc i) list)))) (sym (one met z).is)
+        ∙ sym (expand-step known t at (drop (suc i) list) (record { list = first_words next k; met = (g.rest met z).now }) sw)
         ∙ ap (λ (l : List ℕ). expand known t l (record { list = first_words next k; met = (g.rest met z).now }) sw) (sym left_is) ∙ (g.rest met z).is
 
-    module _ (n : ℕ) (d' : State) (e : x ≡ deep.List n d') where
-      first_says : expand known t (at ∷ []) (record { list = first_words next k; met = (g.rest o.told.met o.told.is).now }) sw ≡ ok (store_of m' d') (some (record { list = first_words next' n; met = (one o.told.met o.told.is).met }))
-      first_says = one-says o.told.met o.told.is (deep.List n d') e
+  module _ {m' : Lent} (next' table' : List ℕ) where
+    module _ (n : ℕ) (d' : State) (w : Expands known t (at ∷ []) next k table m m' d next' table' (Ok (Some n, d'))) where
+      first_one : ExpandedTo (expand known t (at ∷ []) (record { list = first_words next k; met = (g.rest o.told.met o.told.is).now }) sw) m' next' table' (Ok (Some n, d'))
+      first_one = one next' table' (Ok (Some n, d')) w o.told.met o.told.is
 
       rewritten : Rewritten sw (store_of m' d') (first_words next k ++ at ∷ []) (first_words next' n)
       rewritten =
           (expand-ends known t (at ∷ []) (record { list = first_words next k; met = (g.rest o.told.met o.told.is).now }) sw g.carried.later.audited
-          (all_every (is_string sw) known walk_candidates.strings) (and walk-string none_left) g.out).given (store_of m' d') (some (record { list = first_words next' n; met = (one o.told.met o.told.is).met })) first_says
+          (all_every (is_string sw) known walk_candidates.strings) (and walk-string none_left) g.out).given (store_of m' d') (some (record { list = first_words next' n; met = first_one.met })) first_one.is
 
-      pub walking_turn : Walking known t (first_words list count') next₀ table₀ m₀ c m' d' next' n table' (i + 1)
+      pub walking_turn : Walking known t list next₀ table₀ m₀ c m' d' next' n table' (i + 1)
       walking_turn = record {
-        carried = carried-then g.carried m' d' w.kept rewritten.later (w.ready d' (some (first_words next' n)) (ap (λ (u : DeepForm). deepened u m' next') e));
+        carried = carried-then g.carried m' d' w.kept rewritten.later (w.ready d' (some (first_words next' n)) refl);
         out = rewritten.strings;
-        low = (let l = expand-short known t at (record { list = first_words next k; met = (g.rest o.told.met o.told.is).now }) sw (store_of m' d') (record { list = first_words next' n; met = (one o.told.met o.told.is).met }) (deep_limit + i) first_says (let y = words-length next k in let z = g.low in omega arith) (omega arith) in
+        low = (let l = expand-short known t at (record { list = first_words next k; met = (g.rest o.told.met o.told.is).now }) sw (store_of m' d') (record { list = first_words next' n; met = first_one.met }) (deep_limit + i) first_one.is (let y = words-length next k in let z = g.low in omega arith) (omega arith) in
             let y = words-length next' n in omega arith);
-        rest = λ met z. record { now = (one met z).met; tells = (one met z).tells n d' e; is = rw add-one (rest-says met z (deep.List n d') e) };
+        rest = λ met z. record {
+          now = (one next' table' (Ok (Some n, d')) w met z).met;
+          tells = (one next' table' (Ok (Some n, d')) w met z).tells n d' refl;
+          is = rw add-one (rest-says next' table' (Ok (Some n, d')) w met z);
+        };
       }
 
-    -- an answer that is no list ends the loop
-    pub walking_ended : ((j : ℕ) (d' : State) → x ≡ deep.List j d' → ⊥) → Expands known t (first_words list count') next₀ 0 table₀ m₀ m' c next' table' x
-    walking_ended k = record { kept = carried-kept g.carried m' w.kept; ready = w.ready; is = λ met z. go met z x refl k }
-      where
-        go : (met : List ℕ) → Met table₀ met → (y : DeepForm) → x ≡ y → ((j : ℕ) (d' : State) → x ≡ deep.List j d' → ⊥) → ExpandedTo (expand known t (first_words list count') (record { list = first_words next₀ 0; met = met }) (store_of m₀ c)) m' next' table' y
-        go met z (deep.List n d') e k = absurd (k n d' e)
-        go met z (deep.None d') e k = record { met = []; is = sym (rest-says met z (deep.None d') e); tells = λ n f y. no_list y }
-        go met z (deep.Refused j) e k = record { met = []; is = sym (rest-says met z (deep.Refused j) e); tells = λ n f y. no_refusal y }
+    -- None and a refusal end the loop
+    pub walking_ended : {d' : State} → Expands known t (at ∷ []) next k table m m' d next' table' (Ok (None, d')) → Expands known t list next₀ 0 table₀ m₀ m' c next' table' (Ok (None, d'))
+    walking_ended w = record { kept = carried-kept g.carried m' w.kept; ready = w.ready; is = λ met z. record { met = []; is = sym (rest-says next' table' _ w met z); tells = λ n f y. no_list y } }
 
-pub walking_done : (list : List ℕ) (n : ℕ) {known : List ℕ} {t : ℕ} {next₀ table₀ : List ℕ} {m₀ m : Lent} {c d : State} {next : List ℕ} {k : ℕ} {table : List ℕ} {i : ℕ}
-    → Walking known t (first_words list n) next₀ table₀ m₀ c m d next k table i → n ≤ i → Expands known t (first_words list n) next₀ 0 table₀ m₀ m c next table (deep.List k d)
+    pub walking_stopped : {e : Refusal} → Expands known t (at ∷ []) next k table m m' d next' table' (Err e) → Expands known t list next₀ 0 table₀ m₀ m' c next' table' (Err e)
+    walking_stopped w = record { kept = carried-kept g.carried m' w.kept; ready = w.ready; is = λ met z. record { met = []; is = sym (rest-says next' table' _ w met z); tells = λ n f y. no_refusal y } }
+
+pub walking_done : (list : List ℕ) {known : List ℕ} {t : ℕ} {next₀ table₀ : List ℕ} {m₀ m : Lent} {c d : State} {next : List ℕ} {k : ℕ} {table : List ℕ} {i : ℕ}
+    → Walking known t list next₀ table₀ m₀ c m d next k table i → length list ≤ i → Expands known t list next₀ 0 table₀ m₀ m c next table (Ok (Some k, d))
 unfolding expand
-walking_done list n {i = i} g h = record {
+walking_done list g h = record {
   kept = g.carried.kept;
   ready = ready_for g.carried.ready;
   is = λ met z. record {
     met = (g.rest met z).now;
-    is = sym (rw (drop_of_length-le (first_words list n) {i = i} (let y = words-length list n in omega arith)) at (g.rest met z).is);
+    is = sym (rw (drop_of_length-le list h) at (g.rest met z).is);
     tells = λ j f y. (g.rest met z).tells;
   };
 }
 
 -- A ROUND'S LIST
 
-pub expanded-ready : {known : List ℕ} {t : ℕ} {l next : List ℕ} {j : ℕ} {table : List ℕ} {m m' : Lent} {c : State} {next' table' : List ℕ} {x : DeepForm} → Expands known t l next j table m m' c next' table' x → {k : ℕ} {d : State} → x ≡ deep.List k d → Ready m' d
-expanded-ready {m' = m'} {next' = next'} w {k} {d} e = w.ready d (some (first_words next' k)) (ap (λ (u : DeepForm). deepened u m' next') e)
+-- the first words of a slice, as a round begins with them
+module _ (list : List ℕ) (n : ℕ) (p : (n ≤ deep_limit) × (list_limit ≤ length list)) where
+  pub words-list : first_words list n ≡ take n list
+  words-list = words-take list n (omega arith)
 
-module _ {m m' : Lent} {c : State} (ready : Ready m c) (known nodes : List ℕ) (cs : Candidates (store_of m c) known nodes) (t : ℕ) {list next table next' table' : List ℕ} {n : ℕ} (o : RoundOf (store_of m c) list n table next)
-    (x : DeepForm) (w : Expands known t (first_words list n) next 0 table m m' c next' table' x) (k : ℕ) (d : State) (e : x ≡ deep.List k d) where
-  witness : ExpandedTo (expand known t (first_words list n) (record { list = first_words next 0; met = o.told.met }) (store_of m c)) m' next' table' x
+  pub round_of : {s : Store} {table : List ℕ} → all (is_string s) (first_words list n) ≡ true → MetTable table → RoundOf s (take n list) (length (take n list)) table (replicate 512 0)
+  round_of e met = record {
+    strings = rw (words-whole (take n list), ← words-list) e;
+    short = (let z = length-take-le n list (omega arith) in omega arith);
+    within = omega arith;
+    told = met;
+    room = lit≤ tt;
+  }
+
+pub expanded-ready : {known : List ℕ} {t : ℕ} {l next : List ℕ} {j : ℕ} {table : List ℕ} {m m' : Lent} {c : State} {next' table' : List ℕ} {k : ℕ} {d : State} → Expands known t l next j table m m' c next' table' (Ok (Some k, d)) → Ready m' d
+expanded-ready {next' = next'} {k = k} {d = d} w = w.ready d (some (first_words next' k)) refl
+
+module _ {m m' : Lent} {c : State} (ready : Ready m c) (known nodes : List ℕ) (cs : Candidates (store_of m c) known nodes) (t : ℕ) {list next table next' table' : List ℕ} (o : RoundOf (store_of m c) list (length list) table next)
+    (k : ℕ) (d : State) (w : Expands known t list next 0 table m m' c next' table' (Ok (Some k, d))) where
+  witness : ExpandedTo (expand known t list (record { list = first_words next 0; met = o.told.met }) (store_of m c)) m' next' table' (Ok (Some k, d))
   witness = w.is o.told.met o.told.is
 
-  says : expand known t (first_words list n) (record { list = first_words next 0; met = o.told.met }) (store_of m c) ≡ ok (store_of m' d) (some (record { list = first_words next' k; met = witness.met }))
-  says = witness.is ∙ ap (λ (u : DeepForm). expanded u witness.met m' next') e
+  says : expand known t list (record { list = first_words next 0; met = o.told.met }) (store_of m c) ≡ ok (store_of m' d) (some (record { list = first_words next' k; met = witness.met }))
+  says = witness.is
 
-  list-ends : Rewritten (store_of m c) (store_of m' d) (first_words next 0 ++ first_words list n) (first_words next' k)
+  list-ends : Rewritten (store_of m c) (store_of m' d) (first_words next 0 ++ list) (first_words next' k)
   list-ends =
-      (expand-ends known t (first_words list n) (record { list = first_words next 0; met = o.told.met }) (store_of m c) ready.audited (all_every (is_string (store_of m c)) known cs.strings)
-      (all_every (is_string (store_of m c)) _ o.strings) (subst (Strings (store_of m c)) (sym (words-none next)) none_left)).given (store_of m' d) (some (record { list = first_words next' k; met = witness.met })) says
+      (expand-ends known t list (record { list = first_words next 0; met = o.told.met }) (store_of m c) ready.audited (all_every (is_string (store_of m c)) known cs.strings)
+      (all_every (is_string (store_of m c)) _ (rw (words-whole list) at o.strings)) (subst (Strings (store_of m c)) (sym (words-none next)) none_left)).given (store_of m' d) (some (record { list = first_words next' k; met = witness.met })) says
 
   pub round-carried : Carried m c m' d
-  round-carried = carried-then (carried_none ready) m' d w.kept list-ends.later (expanded-ready w e)
+  round-carried = carried-then (carried_none ready) m' d w.kept list-ends.later (expanded-ready w)
 
-  pub round-strings : all (is_string (store_of m' d)) (first_words next' k) ≡ true
-  round-strings = every_all list-ends.strings
-
-  pub round-short : k ≤ 2 * deep_limit
+  round-short : k ≤ 2 * deep_limit
   round-short =
-      let z = expand_shorts known t (first_words list n) (record { list = first_words next 0; met = o.told.met }) (store_of m c) (store_of m' d) (record { list = first_words next' k; met = witness.met }) deep_limit says (let y = words-length next 0 in omega arith) (omega arith) in
+      let z = expand_shorts known t list (record { list = first_words next 0; met = o.told.met }) (store_of m c) (store_of m' d) (record { list = first_words next' k; met = witness.met }) deep_limit says (let y = words-length next 0 in omega arith) (omega arith) in
       let a = words-length next' k in
-      let b = words-length list n in
       let s = o.short in omega arith
+
+  pub round-listed : k ≤ list_limit
+  round-listed = let s = round-short in omega arith
+
+  module _ (e : length next' ≡ length next) where
+    pub round-fits : k ≤ length next'
+    round-fits = let s = round-short in let r = o.room in omega arith
+
+    pub round-strings : all (is_string (store_of m' d)) (take k next') ≡ true
+    round-strings = rw (← words-take next' k round-fits) (every_all list-ends.strings)

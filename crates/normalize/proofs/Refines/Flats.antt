@@ -1,13 +1,11 @@
--- The ways of flattening: an atom appended, and the loop over a chain.
+-- The ways of flattening: the loop over a chain.
 use mathlib.Core.Path.{◌≡◌, refl, sym, ap, subst, ◌∙◌}
 use mathlib.Core.Bool.{Bool, true, false}
 use mathlib.Core.List.{List, [], ◌∷◌, ◌++◌, append-nil, append_assoc}
-use Prim.Native.Nat.{ℕ, suc, ◌+◌, ◌≤◌, ◌<◌}
-use native.Mathlib.Numerals.{add-one}
+use Prim.Native.Nat.{ℕ, suc, ◌≤◌, ◌<◌}
 use native.Mathlib.Omega.{arith}
-use lib.ListN.{length, take, set, length-append, length-take}
-use lib.Seq.{take-suc-set}
-use borrow.Author.Tests.{eq-eqb, ne_eqb}
+use lib.ListN.{length, take, length-append, length-take}
+use borrow.Author.Tests.{eqb-true}
 use Rattle.records.specs.Lists.{concat_map, firsts, Every, and}
 use Rattle.records.specs.Store.{Store, within, kind, is_term, cell_in, is_concat, chain, parts}
 use Rattle.records.specs.View.{cell_at, term_at}
@@ -15,25 +13,18 @@ use Rattle.records.proofs.Lists.{table-length}
 use Rattle.records.proofs.Chains.{chain-is, chain-none}
 use Rattle.records.proofs.Views.{first-at, value-at, next_at_lem}
 use Rattle.records.proofs.Grown.{kind-term}
+use Rattle.held.proofs.Linking.{Words}
 use Rattle.normalize.specs.Normalize.{atoms}
 use Rattle.records.specs.Rules.{list_limit}
 use Rattle.normalize.specs.Working.Flat.{bare, Nested, Appended}
 use Rattle.normalize.proofs.Atoms.{atoms-plain, nested_atoms}
 
--- APPENDING
-
-pub atom-fits : (l : List ℕ) (n t : ℕ) → n < list_limit → list_limit ≤ length l → Appended l (set l n t) n (t ∷ []) (n + 1)
-atom-fits l n t h k = record { fits = λ i. rw add-one (take-suc-set l n t (omega arith)); passes = λ i. absurd (omega arith) }
-
-pub atom-passes : (l : List ℕ) (n t : ℕ) → list_limit ≤ n → Appended l l n (t ∷ []) (list_limit + 1)
-atom-passes l n t h = record { fits = λ i. absurd (omega arith); passes = λ i. omega arith }
-
 module _ (l : List ℕ) (n : ℕ) (e : List ℕ) (m : ℕ) where
   abbrev s : Store
   s = bare l n e m
 
-  pub one-atom : (out out' : List ℕ) (count t r k : ℕ) → k ≡ kind s t → (k ≡ 3 → ⊥) → Appended out out' count (t ∷ []) r → Appended out out' count (atoms s t) r
-  one-atom out out' count t r k i d a = rw (atoms-plain s t (ne_eqb (kind s t) 3 (λ q. d (i ∙ q)))) a
+  pub one-atom : (out out' : List ℕ) (count t r : ℕ) (b : Bool) → b ≡ is_concat s t → b ≡ false → Appended out out' count (t ∷ []) r → Appended out out' count (atoms s t) r
+  one-atom out out' count t r b i d a = rw (atoms-plain s t (sym i ∙ d)) a
 
   -- what is left of the chain, after the atoms so far, is what is asked
   pub record Left (out₀ out : List ℕ) (count t at k : ℕ) : Type 0 where
@@ -51,10 +42,10 @@ module _ (l : List ℕ) (n : ℕ) (e : List ℕ) (m : ℕ) where
   within_cells at b h = rw cells_are h
 
   module _ (nested : Nested s) where
-    pub begin : (out : List ℕ) (count t at k : ℕ) → k ≡ kind s t → k ≡ 3 → at ≡ (term_at l t).first → count ≤ list_limit → Left out out count t at count
-    begin out count t at k i d f h =
-        let q : is_concat s t ≡ true = eq-eqb (kind s t) 3 (sym i ∙ d) in
-        let p : firsts (chain s at) ≡ parts s t = ap (λ (x : ℕ). firsts (chain s x)) (first-at l n t at (counted t (kind-term s t 2 (sym i ∙ d))) f) in
+    pub begin : (out : List ℕ) (count t at : ℕ) (b : Bool) → b ≡ is_concat s t → b ≡ true → at ≡ (term_at l t).first → count ≤ list_limit → Left out out count t at count
+    begin out count t at b i d f h =
+        let q : is_concat s t ≡ true = sym i ∙ d in
+        let p : firsts (chain s at) ≡ parts s t = ap (λ (x : ℕ). firsts (chain s x)) (first-at l n t at (counted t (kind-term s t 2 (eqb-true (kind s t) 3 q))) f) in
         record {
           from = h;
           words = ap (λ (w : List ℕ). take count out ++ w) (ap (concat_map (λ x. atoms s x)) p ∙ sym (nested_atoms s nested t q));
@@ -76,12 +67,12 @@ module _ (l : List ℕ) (n : ℕ) (e : List ℕ) (m : ℕ) where
             passes = λ h. let f = p.from in absurd (omega arith);
           }
 
-      module _ (x : ℕ) (b : Bool) (i : b ≡ within m at) (j : b ≡ true) (v : x ≡ (cell_at e at).value) where
+      module _ {x o y : ℕ} (w : Words e m at x o y) where
         abbrev rest : List ℕ
         rest = firsts (chain s (cell_in s.cells at).next)
 
         parts_are : firsts (chain s at) ≡ x ∷ rest
-        parts_are = firsts_is at x _ (sym i ∙ j) (value-at e m at x (sym i ∙ j) v) refl
+        parts_are = firsts_is at x _ (sym w.counted) (value-at e m at x (sym w.counted) w.value) refl
 
         head_lower : (q : List ℕ) → Every (λ p. p < t) (x ∷ q) → x < t
         head_lower q (and h z) = h
@@ -107,16 +98,15 @@ module _ (l : List ℕ) (n : ℕ) (e : List ℕ) (m : ℕ) where
             let o = a.passes z in
             record { fits = λ o'. absurd (omega arith); passes = λ o'. omega arith }
 
-        module _ (y : ℕ) (w : y ≡ (cell_at e at).next) where
-          next_is : y ≡ (cell_in s.cells at).next
-          next_is = next_at_lem e m at y (sym i ∙ j) w
+        next_is : y ≡ (cell_in s.cells at).next
+        next_is = next_at_lem e m at y (sym w.counted) w.next
 
-          pub part_done : (out' : List ℕ) (r : ℕ) → Appended out out' k (atoms s x) r → r ≤ list_limit → Left out₀ out' count t y r
-          part_done out' r a z = record {
-            from = z;
-            words = rw (a.fits z, next_is) (append_assoc (take k out) (atoms s x) (concat_map (λ z. atoms s z) rest) ∙ words_are);
-            lower = rw next_is (rest_lower _ (subst (Every (λ p. p < t)) parts_are p.lower));
-          }
+        pub part_done : (out' : List ℕ) (r : ℕ) → Appended out out' k (atoms s x) r → r ≤ list_limit → Left out₀ out' count t y r
+        part_done out' r a z = record {
+          from = z;
+          words = rw (a.fits z, next_is) (append_assoc (take k out) (atoms s x) (concat_map (λ z. atoms s z) rest) ∙ words_are);
+          lower = rw next_is (rest_lower _ (subst (Every (λ p. p < t)) parts_are p.lower));
+        }
 
-          pub chain_falls : length (chain s y) < length (chain s at)
-          chain_falls = let q = ap length (chain-is s.cells at nested.ascends (within_cells at true (sym i ∙ j))) in let f = ap (λ (q : ℕ). length (chain s q)) next_is in omega arith
+        pub chain_falls : length (chain s y) < length (chain s at)
+        chain_falls = let q = ap length (chain-is s.cells at nested.ascends (within_cells at true (sym w.counted))) in let f = ap (λ (q : ℕ). length (chain s q)) next_is in omega arith

@@ -1,15 +1,16 @@
 -- The ways of a normal form: a list that passes the limit, and the atoms pushed.
 use mathlib.Core.Path.{◌≡◌, refl, sym, ap, subst, ◌∙◌}
-use mathlib.Core.Bool.{true}
+use mathlib.Core.Bool.{Bool, true, false}
 use mathlib.Core.List.{List, [], ◌∷◌, ◌++◌, append-nil, reverse, reverse-reverse}
 use Prim.Native.Nat.{ℕ, ◌≤◌, ◌<◌}
 use native.Mathlib.Omega.{arith}
 use lib.ListN.{length, take, get_or, length-take}
 use lib.Dec.{leb}
-use borrow.Author.Tests.{ne_eqb}
+use Rattle.std.specs.Prelude.{Result, Ok, Err}
 use Rattle.records.specs.declared.State.{State}
+use Rattle.records.specs.declared.refusal.Refusal.{Refusal}
 use Rattle.records.specs.Lists.{all, concat_map, Every, none_left, and}
-use Rattle.records.specs.Store.{Store, ok, stop, and_then, ◌>>=◌, give, kind, count, within, root_in, is_string}
+use Rattle.records.specs.Store.{Store, ok, stop, and_then, ◌>>=◌, give, is_concat, count, within, root_in, is_string}
 use Rattle.records.specs.View.{Lent, store_of, terms_view, term_limit}
 use Rattle.records.specs.Working.Audited.{Ready}
 use Rattle.records.specs.Working.Doing.{Working}
@@ -19,16 +20,13 @@ use Rattle.records.proofs.Climbs.{root-term, view_count, term-within, ready_root
 use Rattle.records.proofs.IndexStores.{keeps_same}
 use Rattle.records.proofs.Doing.{working_stopped, working_is, working_left}
 use Rattle.records.proofs.Sequence.{working_stop}
-use Rattle.normalize.specs.declared.Form.{Form}
-use Rattle.normalize.specs.declared.Form.TheVariants as form
-use Rattle.normalize.specs.Normalize.{atoms, push_forms, normal_form, form_arguments}
+use Rattle.normalize.specs.Normalize.{atoms, push_forms, normal_form}
 use Rattle.records.specs.Rules.{list_limit, is_list}
 use Rattle.normalize.specs.Working.Flat.{bare, Appended}
 use Rattle.normalize.specs.Working.Nodes.{NodeOf, with_nodes, Rooting}
 use Rattle.normalize.specs.Working.Pushes.{pushed, Candidates}
 use Rattle.normalize.specs.Calls.{first_words, formed}
 use Rattle.normalize.proofs.Atoms.{same-atoms, atoms-plain, atoms-strings, flatten-fits, flatten-full}
-use Rattle.normalize.proofs.FormReady.{known-list}
 use Rattle.normalize.proofs.Represents.{nodes-more, nodes-none}
 
 module _ {m : Lent} {c : State} (ready : Ready m c) where
@@ -53,9 +51,6 @@ module _ {m : Lent} {c : State} (ready : Ready m c) where
   pub list-strings : (known : List ℕ) → is_list s known ≡ true → all (is_string s) known ≡ true
   list-strings known e = both_right (leb (length known) list_limit) _ e
 
-  pub known-strings : (known : List ℕ) (t : ℕ) → form_arguments known t s ≡ true → all (is_string s) known ≡ true
-  known-strings known t e = list-strings known (known-list ready known t e)
-
   -- the table of the known list, and of it and more
   pub known-table : (known table : List ℕ) → is_list s known ≡ true → length table ≡ 513 → ((i : ℕ) → i < length table → get_or table i 0 ≡ 0) → (after : List ℕ) → after ≡ with_nodes s.terms known table → Candidates s known after
   known-table known table e z f after g = record {
@@ -70,22 +65,22 @@ module _ {m : Lent} {c : State} (ready : Ready m c) where
   }
 
   -- from the atoms on, where they are within the limit
-  atoms-done : {m' : Lent} (known : List ℕ) (t : ℕ) (flat list : List ℕ) (x : Form) → concat_map (atoms s) (t ∷ []) ≡ flat → length flat ≤ list_limit → Working (push_forms (known ++ flat) flat []) m m' c (pushed x m' list) → Working (normal_form known t) m m' c (formed x m' list)
+  atoms-done : {m' : Lent} (known : List ℕ) (t : ℕ) (flat list : List ℕ) (x : Result (ℕ × State) Refusal) → concat_map (atoms s) (t ∷ []) ≡ flat → length flat ≤ list_limit → Working (push_forms (known ++ flat) flat []) m m' c (pushed x m' list) → Working (normal_form known t) m m' c (formed x m' list)
   unfolding normal_form
   atoms-done {m'} known t flat list x e h w =
       working_is (ap (and_then (λ l. push_forms (known ++ l) l [] >>= (λ out. give (reverse out)))) (flatten-fits (t ∷ []) s (let k = ap length e in omega arith) ∙ ap (λ (l : List ℕ). ok s l) e)) (turned x w)
     where
-      turned : (y : Form) → Working (push_forms (known ++ flat) flat []) m m' c (pushed y m' list) → Working (push_forms (known ++ flat) flat [] >>= (λ out. give (reverse out))) m m' c (formed y m' list)
-      turned (form.List k d) v = working_left (v.ready d _ refl) (ap (and_then (λ out. give (reverse out))) v.says ∙ ap (λ (z : List ℕ). ok (store_of m' d) z) (reverse-reverse (first_words list k))) v.kept
-      turned (form.Refused k) v = working_stop (λ out. give (reverse out)) v
+      turned : (y : Result (ℕ × State) Refusal) → Working (push_forms (known ++ flat) flat []) m m' c (pushed y m' list) → Working (push_forms (known ++ flat) flat [] >>= (λ out. give (reverse out))) m m' c (formed y m' list)
+      turned (Ok y) v = working_left (v.ready y.1 _ refl) (ap (and_then (λ out. give (reverse out))) v.says ∙ ap (λ (z : List ℕ). ok (store_of m' y.1) z) (reverse-reverse (first_words list y.0))) v.kept
+      turned (Err e) v = working_stop (λ out. give (reverse out)) v
 
   -- a term that is no concatenation
   pub one-string : (t : ℕ) → is_string s t ≡ true → all (is_string s) (t ∷ []) ≡ true
   one-string t e = every_all (and e none_left)
 
-  pub one-done : {m' : Lent} (known : List ℕ) (t : ℕ) (list : List ℕ) (x : Form) (k : ℕ) → k ≡ kind s t → (k ≡ 3 → ⊥) → Working (push_forms (known ++ t ∷ []) (t ∷ []) []) m m' c (pushed x m' list) → Working (normal_form known t) m m' c (formed x m' list)
+  pub one-done : {m' : Lent} (known : List ℕ) (t : ℕ) (list : List ℕ) (x : Result (ℕ × State) Refusal) (b : Bool) → b ≡ is_concat s t → b ≡ false → Working (push_forms (known ++ t ∷ []) (t ∷ []) []) m m' c (pushed x m' list) → Working (normal_form known t) m m' c (formed x m' list)
   unfolding concat_map
-  one-done known t list x k i d = atoms-done known t (t ∷ []) list x (append-nil (atoms s t) ∙ atoms-plain s t (ne_eqb (kind s t) 3 (λ q. d (i ∙ q)))) (omega arith)
+  one-done known t list x b i d = atoms-done known t (t ∷ []) list x (append-nil (atoms s t) ∙ atoms-plain s t (sym i ∙ d)) (omega arith)
 
   -- flattened
   module _ (t : ℕ) (l l' : List ℕ) (n : ℕ) (a : Appended l l' 0 (atoms (bare m.terms c.terms m.cells c.cells) t) n) where
@@ -111,5 +106,5 @@ module _ {m : Lent} {c : State} (ready : Ready m c) where
       unfolding concat_map
       flat-strings e = every_all (subst (Every (λ x. is_string s x ≡ true)) flat-is (subst (Every (λ x. is_string s x ≡ true)) (sym (append-nil (atoms s t))) (every_map (λ x i. i.string) (atoms-strings s ready.audited t e))))
 
-      pub form-done : {m' : Lent} (known list : List ℕ) (x : Form) → Working (push_forms (known ++ take n l') (take n l') []) m m' c (pushed x m' list) → Working (normal_form known t) m m' c (formed x m' list)
+      pub form-done : {m' : Lent} (known list : List ℕ) (x : Result (ℕ × State) Refusal) → Working (push_forms (known ++ take n l') (take n l') []) m m' c (pushed x m' list) → Working (normal_form known t) m m' c (formed x m' list)
       form-done known list x w = atoms-done known t (take n l') list x flat-is flat-length w

@@ -6,15 +6,12 @@ use native.Mathlib.Omega.{arith}
 use lib.ListN.{length-reverse}
 use Rattle.records.specs.declared.State.{State}
 use Rattle.records.specs.Lists.{table, none_left}
-use Rattle.records.specs.Store.{ok, stop, Work, and_then}
+use Rattle.records.specs.Store.{Out, ok, stop, Work, and_then}
 use Rattle.records.specs.View.{Lent, store_of}
 use Rattle.records.specs.Working.Audited.{Ready}
 use Rattle.records.specs.Working.Doing.{Working}
 use Rattle.records.proofs.Doing.{working_stopped, working_left}
 use Rattle.records.proofs.Grown.{Strings}
-use Rattle.normalize.specs.declared.Form.{Form}
-use Rattle.normalize.specs.declared.Form.TheVariants as form
-use Rattle.normalize.specs.Working.Pushes.{pushed}
 use Rattle.normalize.specs.Calls.{first_words}
 use Rattle.normalize.proofs.FormOutcomes.{Ends}
 use Rattle.normalize.proofs.Formed.{Pushed}
@@ -43,16 +40,13 @@ module _ (left : ℕ → List ℕ → Work (List ℕ)) where
     -- the work of turn i, by which the atom a is pushed
     module _ (one : Work (List ℕ)) (a : ℕ) (next : left i so (store_of m d) ≡ and_then (left (i + 1)) (one (store_of m d)))
         (ends : Ends (λ s' out'. Pushed (store_of m d) s' (a ∷ []) so out') (one (store_of m d)))
-        {m' : Lent} (out' : List ℕ) (x : Form) (w : Working one m m' d (pushed x m' out')) where
-      says : (y : Form) → x ≡ y → one (store_of m d) ≡ pushed y m' out'
-      says y e = w.says ∙ ap (λ (v : Form). pushed v m' out') e
+        {m' : Lent} where
+      rest_is : {o : Out (List ℕ)} → Working one m m' d o → and_then (left (i + 1)) o ≡ left 0 [] (store_of m₀ c)
+      rest_is w = ap (and_then (left (i + 1))) (sym w.says) ∙ sym next ∙ g.rest
 
-      rest_is : (y : Form) → x ≡ y → and_then (left (i + 1)) (pushed y m' out') ≡ left 0 [] (store_of m₀ c)
-      rest_is y e = ap (and_then (left (i + 1))) (sym (says y e)) ∙ sym next ∙ g.rest
-
-      pub heaping_turn : (j : ℕ) (d' : State) → x ≡ form.List j d' → Heaping m₀ c m' d' out' j (i + 1)
-      heaping_turn j d' e =
-          let f = ends.given (store_of m' d') (reverse (first_words out' j)) (says (form.List j d') e) in
+      pub heaping_turn : (out' : List ℕ) (j : ℕ) (d' : State) → Working one m m' d (ok (store_of m' d') (reverse (first_words out' j))) → Heaping m₀ c m' d' out' j (i + 1)
+      heaping_turn out' j d' w =
+          let f = ends.given (store_of m' d') (reverse (first_words out' j)) w.says in
           let l = f.long in
           let u = length-reverse (first_words out' j) in
           let v = words-length out' j in
@@ -60,11 +54,11 @@ module _ (left : ℕ → List ℕ → Work (List ℕ)) where
           let v' = words-length out k in
           let b = g.low in
           record {
-            carried = carried-then g.carried m' d' w.kept f.list.later (w.ready d' (reverse (first_words out' j)) (ap (λ (v : Form). pushed v m' out') e));
+            carried = carried-then g.carried m' d' w.kept f.list.later (w.ready d' (reverse (first_words out' j)) refl);
             strings = f.list.strings;
-            rest = rest_is (form.List j d') e;
+            rest = rest_is w;
             low = omega arith;
           }
 
-      pub heaping_stopped : (j : ℕ) → x ≡ form.Refused j → Working (left 0 []) m₀ m' c (stop j)
-      heaping_stopped j e = working_stopped (sym (rest_is (form.Refused j) e)) (carried-kept g.carried m' w.kept)
+      pub heaping_stopped : {j : ℕ} → Working one m m' d (stop j) → Working (left 0 []) m₀ m' c (stop j)
+      heaping_stopped w = working_stopped (sym (rest_is w)) (carried-kept g.carried m' w.kept)

@@ -7,24 +7,21 @@ use native.Mathlib.Numerals.{add-one}
 use native.Mathlib.Omega.{arith}
 use lib.ListN.{length, get_or, set}
 use lib.Dec.{eqb}
-use borrow.Author.Tests.{eqb-true, eq-eqb, ne_eqb}
+use borrow.Author.Tests.{eqb-true}
 use Rattle.records.specs.declared.State.{State}
-use Rattle.records.specs.declared.Made.{Made}
-use Rattle.records.specs.declared.Made.TheVariants.{Term, Refused}
 use Rattle.records.specs.Lists.{all, concat_map, table}
 use Rattle.records.specs.Store.{Store, Term as TermOf, Out, ok, stop, Work, and_then, give, within, kind, term, term_in, is_constant, text}
 use Rattle.records.specs.View.{Lent, store_of, terms_view, term_at}
 use Rattle.records.specs.Make.{make_constant}
 use Rattle.records.specs.Working.Audited.{Ready}
-use Rattle.records.specs.Calls.{made}
 use Rattle.records.specs.Working.Doing.{Working}
 use Rattle.records.proofs.Lists.{both_left, both_right, both_true, left_false, clash, decide, table-length, table-suc}
 use Rattle.records.proofs.Views.{second_at, text-span}
 use Rattle.records.proofs.Grown.{kind-term}
 use Rattle.records.proofs.Doing.{working_same, working_stopped, working_is, working_left}
-use Rattle.records.proofs.Sequence.{made-is, made-stops}
 use Rattle.normalize.specs.Normalize.{join, push}
 use Rattle.normalize.specs.Working.Flat.{bare}
+use Rattle.normalize.specs.Working.Nodes.{is_constant_in}
 use Rattle.normalize.specs.Working.Pushes.{is_empty_in, joins_in}
 use Rattle.normalize.specs.Calls.{first_words}
 use Rattle.normalize.proofs.Refines.Words.{words-put}
@@ -51,30 +48,30 @@ module _ (l : List ℕ) where
 
 -- TESTS
 
-pub empty-other : (ts : List TermOf) (t k : ℕ) → k ≡ (term_in ts t).kind → (k ≡ 1 → ⊥) → false ≡ is_empty_in ts t
+pub empty-other : (ts : List TermOf) (t : ℕ) (b : Bool) → b ≡ is_constant_in ts t → b ≡ false → b ≡ is_empty_in ts t
 unfolding is_empty_in
-empty-other ts t k e d = sym (left_false _ _ (ne_eqb (term_in ts t).kind 1 (λ q. d (e ∙ q))))
+empty-other ts t b e d = d ∙ sym (left_false _ _ (sym e ∙ d))
 
-pub empty_constant : (l : List ℕ) (n t k x : ℕ) → k ≡ (term_in (terms_view l n) t).kind → k ≡ 1 → x ≡ (term_at l t).second → eqb x 0 ≡ is_empty_in (terms_view l n) t
+pub empty_constant : (l : List ℕ) (n t : ℕ) (b : Bool) (x : ℕ) → b ≡ is_constant_in (terms_view l n) t → b ≡ true → x ≡ (term_at l t).second → eqb x 0 ≡ is_empty_in (terms_view l n) t
 unfolding is_empty_in
-empty_constant l n t k x e d f = rw (eq-eqb (term_in (terms_view l n) t).kind 1 (sym e ∙ d), ← second_at l n t x here f)
+empty_constant l n t b x e d f = rw (sym e ∙ d, ← second_at l n t x here f)
   where
     here : within n t ≡ true
-    here = rw (table-length (λ i. term_at l (suc i)) n) at (kind-term (bare l n [] 0) t 0 (sym e ∙ d))
+    here = rw (table-length (λ i. term_at l (suc i)) n) at (kind-term (bare l n [] 0) t 0 (eqb-true (term_in (terms_view l n) t).kind 1 (sym e ∙ d)))
 
 module _ (ts : List TermOf) (t : ℕ) where
   pub joins-none : (l : List ℕ) (n : ℕ) → n ≡ 0 → false ≡ joins_in ts t (reverse (first_words l n))
   unfolding joins_in table
   joins-none l n e = rw e
 
-  pub joins-other : (out : List ℕ) (k : ℕ) → k ≡ (term_in ts t).kind → (k ≡ 1 → ⊥) → false ≡ joins_in ts t out
+  pub joins-other : (out : List ℕ) (b : Bool) → b ≡ is_constant_in ts t → b ≡ false → false ≡ joins_in ts t out
   unfolding joins_in
-  joins-other [] k e d = refl
-  joins-other (u ∷ out) k e d = sym (left_false _ _ (ne_eqb (term_in ts t).kind 1 (λ q. d (e ∙ q))))
+  joins-other [] b e d = refl
+  joins-other (u ∷ out) b e d = sym (left_false _ _ (sym e ∙ d))
 
-  pub joins-last : (l : List ℕ) (n k x : ℕ) → (n ≡ 0 → ⊥) → k ≡ (term_in ts t).kind → k ≡ 1 → x ≡ (term_in ts (get_or l (n - 1) 0)).kind → eqb x 1 ≡ joins_in ts t (reverse (first_words l n))
+  pub joins-last : (l : List ℕ) (n : ℕ) (a b : Bool) → (n ≡ 0 → ⊥) → a ≡ is_constant_in ts t → a ≡ true → b ≡ is_constant_in ts (get_or l (n - 1) 0) → b ≡ joins_in ts t (reverse (first_words l n))
   unfolding joins_in
-  joins-last l n k x d e f g = rw (last-first l n (omega arith), eq-eqb (term_in ts t).kind 1 (sym e ∙ f), g)
+  joins-last l n a b d e f g = g ∙ rw (last-first l n (omega arith), sym e ∙ f)
 
   pub joins-some : (l : List ℕ) (n : ℕ) → joins_in ts t (reverse (first_words l n)) ≡ true → 0 < n
   unfolding joins_in table
@@ -105,11 +102,11 @@ module _ {m : Lent} {c : State} (ready : Ready m c) (t n : ℕ) (l : List ℕ) (
   says : (o : Out ℕ) → w (store_of m c) ≡ o → join t (reverse (first_words l n)) (store_of m c) ≡ and_then (λ (x : ℕ). give (x ∷ reverse (first_words l (n - 1)))) o
   says o e = ap (λ (k : List ℕ). join t k (store_of m c)) (last-first l n p) ∙ join_is (store_of m c) t (get_or l (n - 1) 0) _ split ∙ ap (and_then (λ (x : ℕ). give (x ∷ reverse (first_words l (n - 1))))) e
 
-  pub join-made : {m' : Lent} (r : Made) (x : ℕ) (d : State) → Working w m m' c (made r m') → r ≡ Term x d → Working (join t (reverse (first_words l n))) m m' c (ok (store_of m' d) (reverse (first_words (set l (n - 1) x) n)))
-  join-made r x d o e = let u = made-is e o in working_left (u.ready d x refl) (rw (put_last l n x p q) (says _ u.says)) u.kept
+  pub join-made : {m' : Lent} (x : ℕ) (d : State) → Working w m m' c (ok (store_of m' d) x) → Working (join t (reverse (first_words l n))) m m' c (ok (store_of m' d) (reverse (first_words (set l (n - 1) x) n)))
+  join-made x d u = working_left (u.ready d x refl) (rw (put_last l n x p q) (says _ u.says)) u.kept
 
-  pub join-stopped : {m' : Lent} (r : Made) (k : ℕ) → Working w m m' c (made r m') → r ≡ Refused k → Working (join t (reverse (first_words l n))) m m' c (stop k)
-  join-stopped r k o e = working_stopped (says _ (made-stops e o).says) o.kept
+  pub join-stopped : {m' : Lent} {k : ℕ} → Working w m m' c (stop k) → Working (join t (reverse (first_words l n))) m m' c (stop k)
+  join-stopped u = working_stopped (says _ u.says) u.kept
 
 -- PUSHING
 

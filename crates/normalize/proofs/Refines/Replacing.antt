@@ -2,7 +2,7 @@
 use Rattle.std.specs.Prelude.{if◌then◌else◌}
 use mathlib.Core.Path.{◌≡◌, refl, sym, ap, subst, ◌∙◌}
 use mathlib.Core.Bool.{true, ◌&&◌}
-use mathlib.Core.List.{List, [], ◌∷◌, reverse}
+use mathlib.Core.List.{List, [], ◌∷◌, ◌++◌, reverse}
 use Prim.Native.Nat.{ℕ, suc, ◌+◌, ◌≤◌, ◌<◌}
 use native.Mathlib.Numerals.{add-one}
 use native.Mathlib.Omega.{arith}
@@ -11,24 +11,19 @@ use lib.Seq.{drop-cons}
 use lib.Dec.{eqb}
 use borrow.Author.Tests.{eq-eqb, ne_eqb}
 use Rattle.records.specs.declared.State.{State}
-use Rattle.records.specs.declared.Added.{Added}
-use Rattle.records.specs.declared.Added.TheVariants.{Counts, Refused}
-use Rattle.records.specs.Store.{Store, Out, ok, stop, Work, and_then, ◌>>=◌, give, within, class_up, is_string}
-use Rattle.records.specs.View.{Lent, store_of, terms_view, term_limit}
-use Rattle.records.specs.Working.Audited.{Ready, Closed}
-use Rattle.records.specs.Calls.{added}
+use Rattle.records.specs.Store.{Store, Out, ok, stop, Work, and_then, ◌>>=◌, give, within, is_string}
+use Rattle.records.specs.View.{Lent, store_of, terms_view}
+use Rattle.records.specs.Working.Audited.{Ready}
 use Rattle.records.specs.Working.Doing.{Working}
-use Rattle.records.proofs.Lists.{both_left, both_right, both_true, every_at}
-use Rattle.records.proofs.Grown.{string-term, Strings, strings-later}
-use Rattle.records.proofs.Climbs.{view_count, term-within, ready_roots}
-use Rattle.records.proofs.Doing.{working_same, working_is, working_at}
+use Rattle.records.proofs.Lists.{all_every, every_right, both_left, both_right, both_true, every_at}
+use Rattle.records.proofs.Grown.{string-term, strings-later}
+use Rattle.records.proofs.Climbs.{view_count, term-within}
+use Rattle.records.proofs.Doing.{working_same, working_is}
 use Rattle.records.proofs.Sequence.{working_stop}
 use Rattle.engine.specs.Explain.{explain, explain_arguments}
-use Rattle.normalize.specs.declared.Form.{Form}
-use Rattle.normalize.specs.declared.Form.TheVariants as form
 use Rattle.normalize.specs.Normalize.{representative, substitute, push, push_forms}
 use Rattle.normalize.specs.Working.Nodes.{node_at}
-use Rattle.normalize.specs.Working.Pushes.{pushed, Candidates, cite, push_for}
+use Rattle.normalize.specs.Working.Pushes.{Candidates, cite, push_for}
 use Rattle.normalize.specs.Calls.{first_words}
 use Rattle.normalize.proofs.Candidates.{later-strings, later_rep}
 use Rattle.normalize.proofs.FormOutcomes.{Ends}
@@ -46,31 +41,26 @@ pub cite-other : {m m' : Lent} {c : State} (a r : ℕ) {o : Out (Unit {0})} → 
 unfolding cite
 cite-other a r d w = working_is (rw (ne_eqb r a d)) w
 
-module _ {m m' : Lent} {c : State} (ready : Ready m c) (a r : ℕ) (x : Added) (args : explain_arguments a r (store_of m c) ≡ true) (w : Working (cite a r) m m' c (added x m')) where
-  abbrev s : Store
-  s = store_of m c
-
-  cited : (y : Added) → x ≡ y → Working (cite a r) m m' c (added y m')
-  cited y e = working_at (ap (λ (z : Added). added z m') e) w
-
-  cited-carried : (d : State) → x ≡ Counts d → Carried m c m' d
-  unfolding cite
-  cited-carried d e =
-      let b = both_left (is_string s a && is_string s r) _ args in
-      let st : Stands s a r = record { string = both_right (is_string s a) _ b; class = both_right (is_string s a && is_string s r) _ args } in
-      let h = (replace_ends a r s ready.audited (both_left (is_string s a) _ b) st).given (store_of m' d) tt (cited (Counts d) e).says in
-      carried-then (carried_none ready) m' d w.kept h.later ((cited (Counts d) e).ready d tt refl)
-
-  pub cited-ready : (d : State) → x ≡ Counts d → Ready m' d
-  cited-ready d e = (cited (Counts d) e).ready d tt refl
-
-  pub push_for-done : (d : State) (out : List ℕ) {m'' : Lent} {o : Out (List ℕ)} → x ≡ Counts d → Working (push r out) m' m'' d o → Working (push_for a r out) m m'' c o
+module _ {m m' : Lent} {c : State} (a r : ℕ) (out : List ℕ) where
+  pub push_for-stopped : {k : ℕ} → Working (cite a r) m m' c (stop k) → Working (push_for a r out) m m' c (stop k)
   unfolding push_for
-  push_for-done d out e v = carried_on (cited-carried d e) (λ u. push r out) (cited (Counts d) e) v
+  push_for-stopped w = working_stop (λ u. push r out) w
 
-  pub push_for-stopped : (k : ℕ) (out : List ℕ) → x ≡ Refused k → Working (push_for a r out) m m' c (stop k)
-  unfolding push_for
-  push_for-stopped k out e = working_stop (λ u. push r out) (cited (Refused k) e)
+  module _ (ready : Ready m c) (args : explain_arguments a r (store_of m c) ≡ true) (d : State) (w : Working (cite a r) m m' c (ok (store_of m' d) tt)) where
+    abbrev s : Store
+    s = store_of m c
+
+    cited-carried : Carried m c m' d
+    unfolding cite
+    cited-carried =
+        let b = both_left (is_string s a && is_string s r) _ args in
+        let st : Stands s a r = record { string = both_right (is_string s a) _ b; class = both_right (is_string s a && is_string s r) _ args } in
+        let h = (replace_ends a r s ready.audited (both_left (is_string s a) _ b) st).given (store_of m' d) tt w.says in
+        carried-then (carried_none ready) m' d w.kept h.later (w.ready d tt refl)
+
+    pub push_for-done : {m'' : Lent} {o : Out (List ℕ)} → Working (push r out) m' m'' d o → Working (push_for a r out) m m'' c o
+    unfolding push_for
+    push_for-done v = carried_on cited-carried (λ u. push r out) w v
 
 -- THE LOOP
 
@@ -87,8 +77,11 @@ for_is cs a out s = go ((if eqb (representative s cs a) a then give tt else expl
 abbrev pub forms_left : List ℕ → List ℕ → ℕ → List ℕ → Work (List ℕ)
 forms_left cs flat i out = push_forms cs (drop i flat) out
 
-module _ {m₀ m : Lent} {c d : State} {cs flat list : List ℕ} {count i : ℕ} (g : Heaping (forms_left cs flat) m₀ c m d list count i) (table : List ℕ) (k : Candidates (store_of m₀ c) cs table)
-    (atoms : Strings (store_of m₀ c) flat) (h : i < length flat) where
+module _ (known flat : List ℕ) {m₀ m : Lent} {c d : State} {list : List ℕ} {count i : ℕ} (g : Heaping (forms_left (known ++ flat) flat) m₀ c m d list count i)
+    (table : List ℕ) (k : Candidates (store_of m₀ c) (known ++ flat) table) (h : i < length flat) where
+  abbrev cs : List ℕ
+  cs = known ++ flat
+
   abbrev st : Store
   st = store_of m d
 
@@ -99,10 +92,10 @@ module _ {m₀ m : Lent} {c d : State} {cs flat list : List ℕ} {count i : ℕ}
   out = reverse (first_words list count)
 
   string : is_string st a ≡ true
-  string = every_at flat i 0 (strings-later g.carried.later.grown atoms) h
+  string = every_at flat i 0 (strings-later g.carried.later.grown (every_right known flat (all_every (is_string (store_of m₀ c)) cs k.strings))) h
 
-  pub rep_requires : (d.terms ≤ term_limit) × ((within d.terms a ≡ true) × Closed (class_up (terms_view m.terms d.terms)) d.terms)
-  rep_requires = (g.carried.ready.sized.term_limited, (term-within m d a (string-term st a string), ready_roots m d g.carried.ready.audited.classed))
+  pub rep_counted : within d.terms a ≡ true
+  rep_counted = term-within m d a (string-term st a string)
 
   module _ (r : ℕ) (e : r ≡ node_at (terms_view m.terms d.terms) table a) where
     rep_is : r ≡ representative st cs a
@@ -123,12 +116,12 @@ module _ {m₀ m : Lent} {c d : State} {cs flat list : List ℕ} {count i : ℕ}
     atom-pushed : Ends (λ s' out'. Pushed st s' (a ∷ []) out out') (push_for a r out st)
     atom-pushed = subst (Ends (λ s' out'. Pushed st s' (a ∷ []) out out')) atom-is (atom-ends cs a out st g.carried.later.audited (later-strings k g.carried.later) string g.strings)
 
-    module _ {m' : Lent} (list' : List ℕ) (x : Form) (w : Working (push_for a r out) m m' d (pushed x m' list')) where
-      pub forms_turn : (n : ℕ) (d' : State) → x ≡ form.List n d' → Heaping (forms_left cs flat) m₀ c m' d' list' n (i + 1)
-      forms_turn = heaping_turn (forms_left cs flat) g (push_for a r out) a next atom-pushed list' x w
+    module _ {m' : Lent} where
+      pub forms_turn : (list' : List ℕ) (n : ℕ) (d' : State) → Working (push_for a r out) m m' d (ok (store_of m' d') (reverse (first_words list' n))) → Heaping (forms_left cs flat) m₀ c m' d' list' n (i + 1)
+      forms_turn = heaping_turn (forms_left cs flat) g (push_for a r out) a next atom-pushed
 
-      pub forms_stopped : (j : ℕ) → x ≡ form.Refused j → Working (push_forms cs flat []) m₀ m' c (stop j)
-      forms_stopped = heaping_stopped (forms_left cs flat) g (push_for a r out) a next atom-pushed list' x w
+      pub forms_stopped : {j : ℕ} → Working (push_for a r out) m m' d (stop j) → Working (push_forms cs flat []) m₀ m' c (stop j)
+      forms_stopped = heaping_stopped (forms_left cs flat) g (push_for a r out) a next atom-pushed
 
 pub forms_done : (cs flat : List ℕ) {m₀ m : Lent} {c d : State} {list : List ℕ} {count i : ℕ} → Heaping (forms_left cs flat) m₀ c m d list count i → length flat ≤ i → Working (push_forms cs flat []) m₀ m c (ok (store_of m d) (reverse (first_words list count)))
 unfolding push_forms

@@ -1,38 +1,37 @@
-use Rattle.records.proofs.Public.{cut-asked, passed-ready}
-use Rattle.normalize.proofs.Refines.FormCalls.{deep_short, deep_unready, deep_unfit, form-ready, form-fit, deep_called, undone_deep}
+use mathlib.Core.Path.{refl}
+use Rattle.records.proofs.Public.{cut-asked, handed, numbered, passed-ready}
+use Rattle.normalize.proofs.Refines.FormCalls.{deep_short, deep_unready, deep_unfit, form-ready, deep_called, undone_deep}
 use Rattle.normalize.proofs.deep_normal_form_cited.Goals as goal
 
 pub returns-then-list-lt-LIST_LIMIT : goal.returns-then-list-lt-LIST_LIMIT
 returns-then-list-lt-LIST_LIMIT c =
     deep_short _ _ _ _ c.args.list.now c.if-list-lt-LIST_LIMIT.true
 
-pub returns-then-k-ne0 : goal.returns-then-k-ne0
-returns-then-k-ne0 c =
-    deep_unready _ _ _ _ c.args.list.now c.if-list-lt-LIST_LIMIT.false _ c.audit-k.ensures c.if-k-ne0.true
+pub returns-in_err-audit : goal.returns-in_err-audit
+returns-in_err-audit c =
+    rw (handed _ c.from_residual.ensures.1)
+    (deep_unready _ _ _ _ c.args.list.now c.if-list-lt-LIST_LIMIT.false _ c.in_err-audit.ensures (numbered _))
 
 pub returns-then-not-can_form : goal.returns-then-not-can_form
 returns-then-not-can_form c =
-    deep_unfit _ _ _ _ c.args.list.now c.if-list-lt-LIST_LIMIT.false _ c.audit-k.ensures c.if-k-ne0.false _ c.can_form.ensures c.if-not-can_form.true-raw
+    deep_unfit _ _ _ _ c.args.list.now c.if-list-lt-LIST_LIMIT.false _ c.in_ok-audit.ensures refl _ c.can_form.ensures c.if-not-can_form.true
 
-pub deep_normal_form_cited_unchecked-x-requires : goal.deep_normal_form_cited_unchecked-x-requires
-deep_normal_form_cited_unchecked-x-requires c =
-    record {
-      ready = form-ready c.args.known.now c.args.t _ _ c.args.list.now c.if-list-lt-LIST_LIMIT.false _ c.audit-k.ensures c.if-k-ne0.false _
-          c.can_form.ensures c.if-not-can_form.false-raw;
-      c_value = form-fit c.args.known.now c.args.t _ _ c.args.list.now c.if-list-lt-LIST_LIMIT.false _ c.audit-k.ensures c.if-k-ne0.false _
-          c.can_form.ensures c.if-not-can_form.false-raw;
-      list_limit_in_bounds = c.if-list-lt-LIST_LIMIT.false;
-    }
+pub deep_normal_form_cited_unchecked-x-requires-clause-ready : goal.deep_normal_form_cited_unchecked-x-requires-clause-ready
+deep_normal_form_cited_unchecked-x-requires-clause-ready c =
+    form-ready c.args.known.now c.args.t _ _ c.args.list.now c.if-list-lt-LIST_LIMIT.false _ c.in_ok-audit.ensures refl _
+    c.can_form.ensures c.if-not-can_form.false
 
-pub cut_undeepened-requires : goal.cut_undeepened-requires
-cut_undeepened-requires c =
-    let h = cut-asked (passed-ready _ _ _ c.audit-k.ensures c.if-k-ne0.false) c.deep_normal_form_cited_unchecked-x.auto.terms in
-    record {
-      fact_1 = h.0;
-      fact_2 = h.1;
-    }
+pub cut_refused_unchecked-requires-clause-n_le_term_limit : goal.cut_refused_unchecked-requires-clause-n_le_term_limit
+cut_refused_unchecked-requires-clause-n_le_term_limit c =
+    let h = cut-asked (passed-ready _ _ _ c.in_ok-audit.ensures refl) c.deep_normal_form_cited_unchecked-x.auto.terms in
+    h.0
+
+pub cut_refused_unchecked-requires-clause-terms_in_bounds : goal.cut_refused_unchecked-requires-clause-terms_in_bounds
+cut_refused_unchecked-requires-clause-terms_in_bounds c =
+    let h = cut-asked (passed-ready _ _ _ c.in_ok-audit.ensures refl) c.deep_normal_form_cited_unchecked-x.auto.terms in
+    h.1
 
 pub returns : goal.returns
 returns c =
-    deep_called _ _ _ _ c.args.list.now c.if-list-lt-LIST_LIMIT.false _ c.audit-k.ensures c.if-k-ne0.false _ c.can_form.ensures c.if-not-can_form.false-raw
-    c.deep_normal_form_cited_unchecked-x.ensures (undone_deep _ _ _ _ _ _ c.cut_undeepened.ensures)
+    deep_called _ _ _ _ c.args.list.now c.if-list-lt-LIST_LIMIT.false _ c.in_ok-audit.ensures refl _ c.can_form.ensures c.if-not-can_form.false
+    c.deep_normal_form_cited_unchecked-x.ensures (undone_deep _ _ _ _ _ _ c.cut_refused_unchecked.ensures)

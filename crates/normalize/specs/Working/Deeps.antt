@@ -1,15 +1,16 @@
 -- Working definitions: the rounds of a deep form, with the concatenations met in a table.
-use Rattle.std.specs.Prelude.{◌≡◌, Bool, true, not, ◌&&◌, List, [], ◌++◌, reverse, ℕ, ◌*◌, ◌≤◌, length, get_or, eqb, ltb, if◌then◌else◌}
+use Rattle.std.specs.Prelude.{◌≡◌, Bool, true, not, ◌&&◌, List, [], ◌++◌, reverse, ℕ, ◌*◌, ◌≤◌, length, get_or, eqb, ltb, Result, Ok, Err, Some, None, if◌then◌else◌}
+use Rattle.std.specs.Prelude as code
 use Rattle.std.proofs.Math.Option.{Option, none, some}
 use Rattle.records.specs.declared.State.{State}
+use Rattle.records.specs.declared.refusal.Refusal.{Refusal}
+use Rattle.records.specs.Refusal.{number}
 use Rattle.records.specs.Lists.{all, any, is_in}
 use Rattle.records.specs.Store.{Term, Store, Out, ok, stop, Work, ◌>>=◌, give, store, term_in, is_string}
 use Rattle.records.specs.View.{Lent, store_of, term_limit}
 use Rattle.records.specs.Working.Doing.{Keeps, ReadyFor}
 use Rattle.normalize.specs.Normalize.{normal_form, push_all, deep_limit, opens, Round, expand, settle, after_expand}
-use Rattle.normalize.specs.Calls.{first_words, deepened}
-use Rattle.normalize.specs.declared.DeepForm.{DeepForm}
-use Rattle.normalize.specs.declared.DeepForm.TheVariants as deep
+use Rattle.normalize.specs.Calls.{first_words, words_if, deepened}
 use Rattle.normalize.specs.declared.Turn.{Turn}
 use Rattle.normalize.specs.declared.Turn.TheVariants as turn
 
@@ -42,37 +43,42 @@ expand_atom known a list = do
   form ← normal_form known a
   if ltb deep_limit (length (list ++ form)) then give none else give (some (list ++ form))
 
--- what an expansion ends with: the list so far, None, or the refusal
-abbrev pub expanded : DeepForm → List ℕ → Lent → List ℕ → Out (Option Round)
-expanded (deep.List n c) met m l = ok (store_of m c) (some (record { list = first_words l n; met = met }))
-expanded (deep.None c) met m l = ok (store_of m c) none
-expanded (deep.Refused k) met m l = stop k
+-- a round so far, unless the count of its list is None
+abbrev pub round_if : code.Option ℕ → List ℕ → List ℕ → Option Round
+round_if (Some n) met l = some (record { list = first_words l n; met = met })
+round_if None met l = none
 
-pub record ExpandedTo (o : Out (Option Round)) (m : Lent) (next table : List ℕ) (x : DeepForm) : Type 0 where
+-- what an expansion ends with: the list so far, None, or the refusal
+abbrev pub expanded : Result (code.Option ℕ × State) Refusal → List ℕ → Lent → List ℕ → Out (Option Round)
+expanded (Ok x) met m l = ok (store_of m x.1) (round_if x.0 met l)
+expanded (Err e) met m l = stop (number e)
+
+pub record ExpandedTo (o : Out (Option Round)) (m : Lent) (next table : List ℕ) (x : Result (code.Option ℕ × State) Refusal) : Type 0 where
   pub met : List ℕ
   pub is : o ≡ expanded x met m next
-  pub tells : (n : ℕ) (c : State) → x ≡ deep.List n c → Met table met
+  pub tells : (n : ℕ) (c : State) → x ≡ Ok (Some n, c) → Met table met
 
 -- the atoms l expanded after the first k words of a slice
-pub record Expands (known : List ℕ) (t : ℕ) (l next : List ℕ) (k : ℕ) (table : List ℕ) (m m' : Lent) (c : State) (next' table' : List ℕ) (x : DeepForm) : Type 0 where
+pub record Expands (known : List ℕ) (t : ℕ) (l next : List ℕ) (k : ℕ) (table : List ℕ) (m m' : Lent) (c : State) (next' table' : List ℕ) (x : Result (code.Option ℕ × State) Refusal) : Type 0 where
   pub kept : Keeps m m' c
   pub ready : ReadyFor m' (deepened x m' next')
   pub is : (met : List ℕ) → Met table met → ExpandedTo (expand known t l (record { list = first_words next k; met = met }) (store_of m c)) m' next' table' x
 
--- what a round ends with: another round over its list, or the answer
-abbrev pub settled : Turn → (List ℕ → Work (Option (List ℕ))) → Lent → List ℕ → Out (Option (List ℕ))
-settled (turn.Again n c) more m l = more (first_words l n) (store_of m c)
-settled (turn.Ends x) more m l = deepened x m l
+-- what a round ends with: another round over its list, the answer, or the refusal
+abbrev pub settled : Result Turn Refusal → (List ℕ → Work (Option (List ℕ))) → Lent → List ℕ → Out (Option (List ℕ))
+settled (Ok (turn.Again n c)) more m l = more (first_words l n) (store_of m c)
+settled (Ok (turn.Ends x c)) more m l = ok (store_of m c) (words_if x l)
+settled (Err e) more m l = stop (number e)
 
--- its list, or the answer
-abbrev pub turned : Turn → Lent → List ℕ → Out (Option (List ℕ))
+-- its list, the answer, or the refusal
+abbrev pub turned : Result Turn Refusal → Lent → List ℕ → Out (Option (List ℕ))
 turned x m l = settled x (λ v. give (some v)) m l
 
 -- the joining after a round that began with `before`
 abbrev pub settling : List ℕ → List ℕ → (List ℕ → Work (Option (List ℕ))) → Work (Option (List ℕ))
 settling before list more = push_all list [] >>= (λ out. settle before more (reverse out))
 
-pub record Settles (before list : List ℕ) (m m' : Lent) (c : State) (l : List ℕ) (x : Turn) : Type 0 where
+pub record Settles (before list : List ℕ) (m m' : Lent) (c : State) (l : List ℕ) (x : Result Turn Refusal) : Type 0 where
   pub kept : Keeps m m' c
   pub ready : ReadyFor m' (turned x m' l)
   pub is : (more : List ℕ → Work (Option (List ℕ))) → settling before list more (store_of m c) ≡ settled x more m' l
@@ -83,12 +89,12 @@ round_then known t met l more = do
   s ← store
   if any (opens s t) l then (expand known t l (record { list = []; met = met }) >>= after_expand l more) else give (some l)
 
-pub record TurnedTo (o : (List ℕ → List ℕ → Work (Option (List ℕ))) → Out (Option (List ℕ))) (m : Lent) (l table : List ℕ) (x : Turn) : Type 0 where
+pub record TurnedTo (o : (List ℕ → List ℕ → Work (Option (List ℕ))) → Out (Option (List ℕ))) (m : Lent) (l table : List ℕ) (x : Result Turn Refusal) : Type 0 where
   pub met : List ℕ
   pub is : (more : List ℕ → List ℕ → Work (Option (List ℕ))) → o more ≡ settled x (more met) m l
-  pub tells : (n : ℕ) (c : State) → x ≡ turn.Again n c → Met table met
+  pub tells : (n : ℕ) (c : State) → x ≡ Ok (turn.Again n c) → Met table met
 
-pub record Turns (known : List ℕ) (t : ℕ) (l table : List ℕ) (m m' : Lent) (c : State) (l' table' : List ℕ) (x : Turn) : Type 0 where
+pub record Turns (known : List ℕ) (t : ℕ) (l table : List ℕ) (m m' : Lent) (c : State) (l' table' : List ℕ) (x : Result Turn Refusal) : Type 0 where
   pub kept : Keeps m m' c
   pub ready : ReadyFor m' (turned x m' l')
   pub is : (met : List ℕ) → Met table met → TurnedTo (λ more. round_then known t met l more (store_of m c)) m' l' table' x

@@ -1,5 +1,5 @@
 -- Working definitions: a list in the first words of a lent slice, atom by atom.
-use Rattle.std.specs.Prelude.{◌≡◌, Bool, true, false, ◌&&◌, List, [], ◌∷◌, reverse, ℕ, eqb, if◌then◌else◌}
+use Rattle.std.specs.Prelude.{◌≡◌, Bool, true, false, ◌&&◌, List, [], ◌∷◌, reverse, ℕ, eqb, Result, Ok, Err, if◌then◌else◌}
 use Rattle.records.specs.Lists.{all}
 use Rattle.records.specs.Store.{Term, Store, Out, ok, stop, Work, ◌>>=◌, give, term_in, is_string}
 use Rattle.records.specs.View.{Lent, store_of}
@@ -7,13 +7,14 @@ use Rattle.engine.specs.Explain.{explain}
 use Rattle.normalize.specs.Normalize.{push}
 use Rattle.normalize.specs.Working.Nodes.{is_constant_in, NodeOf}
 use Rattle.normalize.specs.Calls.{first_words}
-use Rattle.normalize.specs.declared.Form.{Form}
-use Rattle.normalize.specs.declared.Form.TheVariants as form
+use Rattle.records.specs.declared.State.{State}
+use Rattle.records.specs.declared.refusal.Refusal.{Refusal}
+use Rattle.records.specs.Refusal.{number}
 
 -- a list in the first words of a slice, last atom first
-abbrev pub pushed : Form → Lent → List ℕ → Out (List ℕ)
-pushed (form.List n c) m l = ok (store_of m c) (reverse (first_words l n))
-pushed (form.Refused k) m l = stop k
+abbrev pub pushed : Result (ℕ × State) Refusal → Lent → List ℕ → Out (List ℕ)
+pushed (Ok x) m l = ok (store_of m x.1) (reverse (first_words l x.0))
+pushed (Err e) m l = stop (number e)
 
 -- string terms, and their table
 pub record Candidates (s : Store) (l table : List ℕ) : Type 0 where

@@ -1,19 +1,17 @@
 -- Adding a key: the ways through, over the store that is seen.
-use mathlib.Core.Path.{◌≡◌, refl, sym}
-use mathlib.Core.Bool.{Bool, true, false, and-true, and-false}
+use mathlib.Core.Path.{◌≡◌, refl}
+use mathlib.Core.Bool.{Bool, true, false}
 use mathlib.Core.List.{List}
-use Prim.Native.Nat.{ℕ, ◌+◌, ◌*◌, min, max}
+use Prim.Native.Nat.{ℕ, ◌+◌, min, max}
 use native.Mathlib.Numerals.{add-one}
-use native.Mathlib.Omega.{arith}
-use lib.ListN.{length, get_or}
-use lib.Dec.{eqb, ltb}
-use borrow.Author.Tests.{eq-eqb, ne_eqb}
+use lib.ListN.{length}
+use lib.Dec.{ltb}
 use Rattle.records.specs.declared.State.{State}
-use Rattle.records.specs.Lists.{any, one_more}
+use Rattle.records.specs.Lists.{one_more}
 use Rattle.records.specs.Store.{ok, stop}
 use Rattle.records.specs.View.{lent, store_of, pair_at, pairs_view, key_room, one_key}
 use Rattle.records.specs.Rules.{key_rule}
-use Rattle.records.specs.Make.{add_key, ordered, same_pair}
+use Rattle.records.specs.Make.{add_key, ordered}
 use Rattle.records.specs.Working.Audited.{Ready}
 use Rattle.records.specs.Working.Puts.{PairPut}
 use Rattle.records.specs.Working.Doing.{Working}
@@ -39,17 +37,3 @@ module _ (t e h r k : List ℕ) (c : State) (ready : Ready (lent t e h r k) c) (
   pub key_refused : fits ≡ false → Working (add_key a b) (lent t e h r k) (lent t e h r k) c (stop 8)
   unfolding add_key
   key_refused f = working_stopped (rw (table-length (pair_at k) c.keys, ← p, f)) keeps_same
-
--- the pair that is looked for, by its two numbers in order
-pub key_known : (l : List ℕ) (n a b x y : ℕ) (r : Bool) → x ≡ min a b → y ≡ max a b → r ≡ any (same_pair (x, y)) (pairs_view l n) → r ≡ any (same_pair (ordered a b)) (pairs_view l n)
-key_known l n a b x y r p q e = rw (p, q) at e
-
--- the test of one pair
-module _ (l : List ℕ) (i a b : ℕ) where
-  pub pair_same : b ≡ get_or l (2 * i + 1) 0 → eqb a (get_or l (2 * i) 0) ≡ same_pair (a, b) (pair_at l i)
-  unfolding same_pair
-  pair_same e = let z : 2 * i + 0 ≡ 2 * i = omega arith in rw (z, eq-eqb b (get_or l (2 * i + 1) 0) e) (sym (and-true (eqb a (get_or l (2 * i) 0))))
-
-  pub pair-other : (b ≡ get_or l (2 * i + 1) 0 → ⊥) → same_pair (a, b) (pair_at l i) ≡ false
-  unfolding same_pair
-  pair-other d = let z : 2 * i + 0 ≡ 2 * i = omega arith in rw (z, ne_eqb b (get_or l (2 * i + 1) 0) d) (and-false (eqb a (get_or l (2 * i) 0)))

@@ -1,43 +1,22 @@
 -- The public calls that make concatenations, lengths and equations: their arguments, and the ways through.
-use mathlib.Core.Path.{◌≡◌, refl, sym, ap, ◌∙◌}
-use mathlib.Core.Bool.{Bool, true, false, not}
+use mathlib.Core.Path.{◌≡◌, refl, sym, ◌∙◌}
+use mathlib.Core.Bool.{Bool, true, false}
 use mathlib.Core.List.{List}
 use Prim.Native.Nat.{ℕ, ◌<◌, ◌≤◌}
-use lib.ListN.{length, get_or}
+use lib.ListN.{length}
 use lib.Dec.{leb}
 use borrow.Author.Tests.{le-leb, lt-leb}
 use Rattle.records.specs.declared.State.{State}
-use Rattle.records.specs.Lists.{all, all_below}
-use Rattle.records.specs.Store.{Store, Out, stop, is_string}
+use Rattle.records.specs.Store.{Out, stop, is_string}
 use Rattle.records.specs.View.{Lent, lent, store_of, termed}
-use Rattle.records.specs.Rules.{list_limit, is_list, is_equatable, audit}
+use Rattle.records.specs.Rules.{is_list, is_equatable, audit}
 use Rattle.records.specs.Make.{make_concat, make_length, make_equation, concat_arguments, length_arguments, equation_arguments}
 use Rattle.records.specs.Calls.{call, Public}
 use Rattle.records.specs.Working.Doing.{Working}
-use Rattle.records.proofs.Lists.{left_false, both_true, all-table, below-stop, below-done}
-use Rattle.records.proofs.Refines.MakeCalls.{whole_word, full-stops}
+use Rattle.records.proofs.Lists.{left_false, both_true}
+use Rattle.records.proofs.Refines.MakeCalls.{full-stops}
 use Rattle.records.proofs.Kept.{concat-stops, length-stops, equation-stops}
 use Rattle.records.proofs.Public.{Undone, call-unfit, call_undone}
-
--- LISTS OF STRING TERMS
-
--- each element, by its place
-all-at : (p : ℕ → Bool) (l : List ℕ) → all p l ≡ all_below (λ i. p (get_or l i 0)) (length l)
-all-at p l = sym (ap (all p) (whole_word l)) ∙ all-table p (λ i. get_or l i 0) (length l)
-
-module _ (s : Store) (l : List ℕ) where
-  pub list-long : list_limit < length l → false ≡ is_list s l
-  list-long h = sym (left_false _ _ (lt-leb (length l) list_limit h))
-
-  module _ (short : length l ≤ list_limit) where
-    is_all : is_list s l ≡ all_below (λ i. is_string s (get_or l i 0)) (length l)
-    is_all = rw (le-leb (length l) list_limit short) (all-at (is_string s) l)
-
-    pub list-stop : (i : ℕ) (b : Bool) → b ≡ is_string s (get_or l i 0) → not b ≡ true → i < length l → false ≡ is_list s l
-    list-stop i b e h k = below-stop (λ j. is_string s (get_or l j 0)) (length l) i b e h k ∙ sym is_all
-
-    pub list_done : (i : ℕ) → i ≤ length l → length l ≤ i → all_below (λ j. is_string s (get_or l j 0)) i ≡ true → true ≡ is_list s l
-    list_done i a b h = below-done (λ j. is_string s (get_or l j 0)) (length l) i a b h ∙ sym is_all
 
 -- what the work requires, where the code's test passes
 pub concat-right : (m : Lent) (c : State) (l : List ℕ) (b : Bool) → 2 ≤ length l → b ≡ is_list (termed m.terms c) l → b ≡ true → concat_arguments l (store_of m c) ≡ true

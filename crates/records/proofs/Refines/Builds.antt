@@ -12,7 +12,11 @@ use lib.Dec.{eqb, ltb, leb}
 use borrow.Author.Tests.{not-true, not-false, eqb-true, eq-eqb, ne_eqb}
 use Rattle.records.specs.Lists.{same_word, firsts, first_below}
 use Rattle.records.specs.declared.State.{State}
-use Rattle.records.specs.declared.Made.TheVariants.{Term, Refused}
+use Rattle.std.specs.Prelude.{Ok, Err}
+use Rattle.records.specs.declared.refusal.Refusal.TheVariants.{Room}
+use Rattle.records.specs.declared.kind.Kind.{Kind}
+use Rattle.records.specs.declared.kind.Kind.TheVariants as kinds
+use Rattle.records.specs.Kind.{kind_number}
 use Rattle.records.specs.Store.{Term as Record, Cell, Store, Out, ok, stop, Work, term, kind, count, within, chain_in}
 use Rattle.records.specs.View.{Lent, lent, store_of, term_words, cell_words, term_limit, cell_limit, term_room, cell_room, term_at, cell_at, cells_view, chars_view, one_term, more_cells}
 use Rattle.records.specs.Index.{bucket_of, bucket}
@@ -23,7 +27,7 @@ use Rattle.records.specs.Working.Puts.{TermPut, ChainPut}
 use Rattle.records.specs.Working.Audited.{Ready, Sized, Recorded, Ascends}
 use Rattle.records.specs.Calls.{made}
 use Rattle.records.specs.Working.Doing.{Working, Building}
-use Rattle.records.proofs.Lists.{left_false, right-false, both_left, both_right, decide, within_low, within-high, table-length, first-same, word_is}
+use Rattle.records.proofs.Lists.{left_false, both_left, both_right, decide, within_low, within-high, table-length, first-same, word_is}
 use Rattle.records.proofs.Works.{one_store}
 use Rattle.records.proofs.Append.{grow}
 use Rattle.records.proofs.IndexSays.{bucket-small}
@@ -65,23 +69,6 @@ module _ (t e h r ks : List ℕ) (c : State) (k a b : ℕ) (fits : Bool) (room :
 
 -- LENGTHS AND EQUATIONS
 
-module _ (l : List ℕ) (k a b t x : ℕ) (ex : x ≡ (term_at l t).kind) where
-  pub sides-kind : (x ≡ k → ⊥) → false ≡ has_sides l k a b t
-  unfolding has_sides
-  sides-kind d = sym (left_false _ (eqb (term_at l t).second b) (left_false _ (eqb (term_at l t).first a) (ne_eqb (term_at l t).kind k (λ e. d (ex ∙ e)))))
-
-  module _ (y : ℕ) (ey : y ≡ (term_at l t).first) where
-    pub sides_first : (y ≡ a → ⊥) → false ≡ has_sides l k a b t
-    unfolding has_sides
-    sides_first d = sym (left_false _ (eqb (term_at l t).second b) (right-false (eqb (term_at l t).kind k) _ (ne_eqb (term_at l t).first a (λ e. d (ey ∙ e)))))
-
-    pub sides-second : (z : ℕ) → x ≡ k → y ≡ a → z ≡ (term_at l t).second → eqb z b ≡ has_sides l k a b t
-    unfolding has_sides
-    sides-second z e f g =
-        let p : eqb (term_at l t).kind k ≡ true = eq-eqb _ _ (sym ex ∙ e) in
-        let q : eqb (term_at l t).first a ≡ true = eq-eqb _ _ (sym ey ∙ f) in
-        rw (p, q, g)
-
 module _ (m : Lent) (c : State) where
   sides-found : (k a b : ℕ) → first_below (λ i. has_sides m.terms k a b (suc i)) c.terms ≡ lookup (sides_of k a b) (store_of m c)
   unfolding lookup has_sides sides_of
@@ -89,6 +76,11 @@ module _ (m : Lent) (c : State) where
       rw (table-length (λ i. term_at m.terms (suc i)) c.terms)
       (first-same (λ i. has_sides m.terms k a b (suc i)) (λ i. sides_of k a b (store_of m c) (suc i)) c.terms (λ i h.
       ap (λ (y : Record). eqb y.kind k && eqb y.first a && eqb y.second b) (sym (term_is m.terms c.terms (suc i) (omega arith) h))))
+
+-- the two kinds that have two words, by their numbers
+pub sided : {k : Kind} {b : ℕ} → ((k ≡ kinds.Length) × (b ≡ 0)) ⊎ (k ≡ kinds.Equation) → ((kind_number k ≡ 4) × (b ≡ 0)) ⊎ (kind_number k ≡ 5)
+sided (inl o) = inl (ap kind_number o.0, o.1)
+sided (inr o) = inr (ap kind_number o)
 
 -- a length or an equation that has these words lies in their bucket: a length's second word is 0
 pub sides_searchable : (m : Lent) (c : State) (k a b x : ℕ) → Ready m c → ((k ≡ 4) × (b ≡ 0)) ⊎ (k ≡ 5) → x ≡ bucket_of k (a ∷ b ∷ []) → Searchable m.terms c.terms x (has_sides m.terms k a b)
@@ -112,18 +104,18 @@ module _ (t e h r ks : List ℕ) (c : State) (ready : Ready (lent t e h r ks) c)
   looked : u ≡ number_of (lookup (sides_of k a b) (store_of (lent t e h r ks) c))
   looked = look ∙ ap number_of (sides-found (lent t e h r ks) c k a b)
 
-  pub sides-old : (u ≡ 0 → ⊥) → Building (make_sides k a b) (lent t e h r ks) (lent t e h r ks) c (made (Term u c) (lent t e h r ks))
+  pub sides-old : (u ≡ 0 → ⊥) → Building (make_sides k a b) (lent t e h r ks) (lent t e h r ks) c (made (Ok (u, c)) (lent t e h r ks))
   unfolding make_sides
   sides-old d = building_found ready (lowest-old (sides_of k a b) (add_term k a b) (store_of (lent t e h r ks) c) u looked d)
 
   module _ (z : u ≡ 0) (fits : Bool) (room : fits ≡ ltb c.terms (term_room t)) where
-    pub sides-full : fits ≡ false → Building (make_sides k a b) (lent t e h r ks) (lent t e h r ks) c (made (Refused 8) (lent t e h r ks))
+    pub sides-full : fits ≡ false → Building (make_sides k a b) (lent t e h r ks) (lent t e h r ks) c (made (Err Room) (lent t e h r ks))
     unfolding make_sides
     sides-full f =
         building_stopped (lowest-new (sides_of k a b) (add_term k a b) (store_of (lent t e h r ks) c) u looked z ∙ term-refused t e h r ks c k a b fits room f)
 
     pub sides-made : (t' : List ℕ) (d : State) (x : ℕ) → fits ≡ true → ((k ≡ 4) × (b ≡ 0)) ⊎ (k ≡ 5) → x ≡ bucket_of k (a ∷ b ∷ []) → TermPut t t' c.terms k a b x → length t' ≡ length t → d ≡ one_term c
-        → Building (make_sides k a b) (lent t e h r ks) (lent t' e h r ks) c (made (Term (c.terms + 1) d) (lent t' e h r ks))
+        → Building (make_sides k a b) (lent t e h r ks) (lent t' e h r ks) c (made (Ok ((c.terms + 1), d)) (lent t' e h r ks))
     unfolding make_sides
     sides-made t' d x f two i p n q =
         record {
@@ -182,24 +174,24 @@ module _ (e : List ℕ) (n : ℕ) (w : List ℕ) (c at i : ℕ) (up : Ascends (c
       let s = cell-is e n at (within_low n at q) (within-high n at q) in
       chain-is (cells_view e n) at up (rw size q) ∙ ap (λ (x : Cell). (x.value, x.other) ∷ chain_in (cells_view e n) x.next) s
 
-  pub walk_ends : i < length w → not b ≡ true → false ≡ same_word (firsts (chain_in (cells_view e n) c)) w
+  pub walk_ends : i < length w → b ≡ false → false ≡ same_word (firsts (chain_in (cells_view e n) c)) w
   unfolding firsts same_word
   walk_ends l f =
-      let z : same_word (firsts (chain_in (cells_view e n) at)) (drop i w) ≡ false = rw (none_here (not-true b f), drop-cons w i 0 l) in
+      let z : same_word (firsts (chain_in (cells_view e n) at)) (drop i w) ≡ false = rw (none_here f, drop-cons w i 0 l) in
       sym z ∙ h.rest
 
-  pub walk-differs : (v : ℕ) → i < length w → not b ≡ false → v ≡ (cell_at e at).value → (v ≡ get_or w i 0 → ⊥) → false ≡ same_word (firsts (chain_in (cells_view e n) c)) w
+  pub walk-differs : (v : ℕ) → i < length w → b ≡ true → v ≡ (cell_at e at).value → (v ≡ get_or w i 0 → ⊥) → false ≡ same_word (firsts (chain_in (cells_view e n) c)) w
   unfolding firsts same_word
   walk-differs v l f q d =
       let z : same_word (firsts (chain_in (cells_view e n) at)) (drop i w) ≡ false
-      = rw (one-here (not-false b f), drop-cons w i 0 l) (left_false _ _ (ne_eqb _ _ (λ p. d (q ∙ p)))) in
+      = rw (one-here f, drop-cons w i 0 l) (left_false _ _ (ne_eqb _ _ (λ p. d (q ∙ p)))) in
       sym z ∙ h.rest
 
-  pub walk-on : (v x : ℕ) → i < length w → not b ≡ false → v ≡ (cell_at e at).value → v ≡ get_or w i 0 → x ≡ (cell_at e at).next → Walked e n w c x (i + 1)
+  pub walk-on : (v x : ℕ) → i < length w → b ≡ true → v ≡ (cell_at e at).value → v ≡ get_or w i 0 → x ≡ (cell_at e at).next → Walked e n w c x (i + 1)
   unfolding firsts same_word
   walk-on v x l f q p y =
       let z : same_word (firsts (chain_in (cells_view e n) at)) (drop i w) ≡ same_word (firsts (chain_in (cells_view e n) x)) (drop (i + 1) w)
-      = rw (one-here (not-false b f), drop-cons w i 0 l, ← y, add-one i, ← p, ← q, eq-eqb v v refl) in
+      = rw (one-here f, drop-cons w i 0 l, ← y, add-one i, ← p, ← q, eq-eqb v v refl) in
       record { upto = omega arith; rest = sym z ∙ h.rest }
 
   pub walk_over : length w ≤ i → not b ≡ same_word (firsts (chain_in (cells_view e n) c)) w
@@ -209,17 +201,6 @@ module _ (e : List ℕ) (n : ℕ) (w : List ℕ) (c at i : ℕ) (up : Ascends (c
       (λ f. let z : same_word (firsts (chain_in (cells_view e n) at)) (drop i w) ≡ true = rw (none_here f, drop_of_length-le w {i = i} l) in rw f (sym z ∙ h.rest))
 
 -- CONCATENATIONS
-
-module _ (l : List ℕ) (cs : List Cell) (w : List ℕ) (t x : ℕ) (ex : x ≡ (term_at l t).kind) where
-  pub parts-kind : (x ≡ 3 → ⊥) → false ≡ has_parts l cs w t
-  unfolding has_parts
-  parts-kind d = sym (left_false _ _ (ne_eqb _ _ (λ e. d (ex ∙ e))))
-
-  pub parts_are : (y : ℕ) (b : Bool) → x ≡ 3 → y ≡ (term_at l t).first → b ≡ same_word (firsts (chain_in cs y)) w → b ≡ has_parts l cs w t
-  unfolding has_parts
-  parts_are y b e f q =
-      let p : eqb (term_at l t).kind 3 ≡ true = eq-eqb _ _ (sym ex ∙ e) in
-      rw (p, ← f) q
 
 module _ (m : Lent) (c : State) (w : List ℕ) where
   parts-found : first_below (λ i. has_parts m.terms (cells_view m.cells c.cells) w (suc i)) c.terms ≡ lookup (concat_of w) (store_of m c)
@@ -242,7 +223,7 @@ parts_searchable m c w ready = record { f = bucket (store_of m c); indexed = rea
         (ap (λ (z : Record). firsts (chain_in (cells_view m.cells c.cells) z.first)) is ∙ word_is _ w (both_right (eqb (term_at m.terms t).kind 3) _ q))
 
 module _ (t e h r ks : List ℕ) (c : State) (w : List ℕ) (f : Bool) (cells-here : f ≡ leb (c.cells + length w) (cell_room e)) where
-  pub append-long : not f ≡ true → Building (append_parts w) (lent t e h r ks) (lent t e h r ks) c (made (Refused 8) (lent t e h r ks))
+  pub append-long : not f ≡ true → Building (append_parts w) (lent t e h r ks) (lent t e h r ks) c (made (Err Room) (lent t e h r ks))
   unfolding add_chain
   append-long q = building_stopped (rw (table-length (λ i. cell_at e (suc i)) c.cells, ← cells-here, not-true f q))
 
@@ -254,7 +235,7 @@ module _ (t e h r ks : List ℕ) (c : State) (w : List ℕ) (f : Bool) (cells-he
   append-words z q = cells-room e c.cells (length w) z.cell_room (sym cells-here ∙ not-false f q)
 
   module _ (q : not f ≡ false) (g : Bool) (term-here : g ≡ ltb c.terms (term_room t)) where
-    pub append-full : not g ≡ true → Building (append_parts w) (lent t e h r ks) (lent t e h r ks) c (made (Refused 8) (lent t e h r ks))
+    pub append-full : not g ≡ true → Building (append_parts w) (lent t e h r ks) (lent t e h r ks) c (made (Err Room) (lent t e h r ks))
     unfolding add_chain add_term
     append-full p =
         building_stopped
@@ -262,7 +243,7 @@ module _ (t e h r ks : List ℕ) (c : State) (w : List ℕ) (f : Bool) (cells-he
 
     pub append-made : Ready (lent t e h r ks) c → (t' e' : List ℕ) (d d' : State) (x : ℕ) → not g ≡ false → x ≡ bucket_of 3 w → ChainPut e e' c.cells w → length e' ≡ length e
         → TermPut t t' c.terms 3 (c.cells + 1) 0 x → length t' ≡ length t → d ≡ more_cells c (length w) → d' ≡ one_term d
-        → Building (append_parts w) (lent t e h r ks) (lent t' e' h r ks) c (made (Term (c.terms + 1) d') (lent t' e' h r ks))
+        → Building (append_parts w) (lent t e h r ks) (lent t' e' h r ks) c (made (Ok ((c.terms + 1), d')) (lent t' e' h r ks))
     unfolding add_chain
     append-made ready t' e' d d' z p i a la b lb x y = record {
       says = chained ∙ termed;
@@ -297,7 +278,7 @@ module _ (t e h r ks : List ℕ) (c : State) (w : List ℕ) (u : ℕ)
   absent z = lowest-new (concat_of w) (append_parts w) (store_of (lent t e h r ks) c) u sought z
 
   module _ (ready : Ready (lent t e h r ks) c) where
-    pub concat-old : (u ≡ 0 → ⊥) → Working (make_concat w) (lent t e h r ks) (lent t e h r ks) c (made (Term u c) (lent t e h r ks))
+    pub concat-old : (u ≡ 0 → ⊥) → Working (make_concat w) (lent t e h r ks) (lent t e h r ks) c (made (Ok (u, c)) (lent t e h r ks))
     concat-old d = working_same ready (found d)
 
     pub concat-new : (m' : Lent) (o : Out ℕ) → concat_arguments w (store_of (lent t e h r ks) c) ≡ true → u ≡ 0 → Building (append_parts w) (lent t e h r ks) m' c o → Working (make_concat w) (lent t e h r ks) m' c o

@@ -4,19 +4,18 @@ use mathlib.Core.Path.{◌≡◌, refl, sym, ap, ◌∙◌}
 use mathlib.Core.Bool.{Bool, true, false, not, ◌&&◌, ◌||◌}
 use mathlib.Core.List.{List}
 use mathlib.Core.Logic.{⊎_elim}
-use Prim.Native.Nat.{ℕ, zero, suc, ◌≤◌, ◌<◌}
-use native.Mathlib.Omega.{arith}
+use Prim.Native.Nat.{ℕ, zero, suc}
 use lib.ListN.{length}
 use lib.Dec.{eqb}
 use borrow.Author.Tests.{eqb-true, eqb-false, eq-eqb, ne_eqb}
 use Rattle.records.specs.declared.State.{State}
 use Rattle.records.specs.Store.{Store, term, count, is_term, is_string, within, climb, class_up, forest_up, root, top, same_class, same_tree}
-use Rattle.records.specs.Rules.{each_term, parents_rule, ends_rule, alike_rule, alone_rule, is_number, edge_label, label_rule, classes_rule}
+use Rattle.records.specs.Rules.{each_term, parents_rule, ends_rule, alike_rule, alone_rule, label_rule, classes_rule}
 use Rattle.records.specs.Working.Leaves.{parent_of, up_in, alike_at, alone_at, class_test}
 use Rattle.records.specs.View.{Lent, store_of, terms_view, termed, term_at}
 use Rattle.records.specs.Working.Audited.{Closed, Rooted}
-use Rattle.records.proofs.Lists.{both_left, both_right, both_true, right-false, right_falsum, or-stop, or-next, either, or_left, or_right, decide, clash, same_test, and-stop, and-next, failed, passed}
-use Rattle.records.proofs.Climbs.{climb-up, climb-stays, climb-within, rule_at, rule_all, parents_up, view_count, view_term, view_up, view_class, view_forest}
+use Rattle.records.proofs.Lists.{both_left, both_right, both_true, either, or_left, or_right, decide, clash, same_test}
+use Rattle.records.proofs.Climbs.{climb-up, climb-stays, climb-within, rule_at, rule_all, parents_up, view_count, view_up}
 
 -- what a term's tests say of its roots
 module _ (s : Store) (t : ℕ) where
@@ -186,74 +185,8 @@ seen-term l c t = ap (λ n. within n t) (view_count l c.terms)
 
 module _ (l : List ℕ) (c : State) (t : ℕ) (w : within c.terms t ≡ true) where
   -- a parent that was read names a term where the number read does
-  parent-term : (forest : Bool) (p : ℕ) → p ≡ parent_of forest (term_at l t) → is_term (termed l c) (up_in forest (terms_view l c.terms) t) ≡ within c.terms p
+  pub parent-term : (forest : Bool) (p : ℕ) → p ≡ parent_of forest (term_at l t) → is_term (termed l c) (up_in forest (terms_view l c.terms) t) ≡ within c.terms p
   parent-term forest p e = ap (is_term (termed l c)) (sym (view_up l c.terms forest t p w e)) ∙ seen-term l c p
-
-  pub parents_stop : (p : ℕ) (b : Bool) → p ≡ (term_at l t).class_parent → b ≡ within c.terms p → not b ≡ true → false ≡ parents_rule (termed l c) t
-  unfolding parents_rule
-  parents_stop p b e f h = and-stop _ _ (parent-term false p e ∙ failed _ b f h)
-
-  pub parents_last : (p q : ℕ) (b r : Bool) → p ≡ (term_at l t).class_parent → b ≡ within c.terms p → not b ≡ false → q ≡ (term_at l t).forest_parent → r ≡ within c.terms q → r ≡ parents_rule (termed l c) t
-  unfolding parents_rule
-  parents_last p q b r e f h d g = and-next _ _ r (parent-term false p e ∙ passed _ b f h) (g ∙ sym (parent-term true q d))
-
-  pub label_edge : (p k v : ℕ) (r : Bool) → p ≡ (term_at l t).forest_parent → k ≡ (term_at l t).label_kind → v ≡ (term_at l t).label_value → (p ≡ t → ⊥) → r ≡ edge_label k v → r ≡ label_rule (termed l c) t
-  unfolding label_rule
-  label_edge p k v r ep ek ev d e = rw (view_term l c.terms t w, ne_eqb (term_at l t).forest_parent t (λ z. d (ep ∙ z)), ← ek, ← ev) e
-
-  module _ (p k v : ℕ) (ep : p ≡ (term_at l t).forest_parent) (ek : k ≡ (term_at l t).label_kind) (ev : v ≡ (term_at l t).label_value) (d : p ≡ t) where
-    pub root-kind : (k ≡ 0 → ⊥) → false ≡ label_rule (termed l c) t
-    unfolding label_rule
-    root-kind z = rw (view_term l c.terms t w, eq-eqb (term_at l t).forest_parent t (sym ep ∙ d), ne_eqb (term_at l t).label_kind 0 (λ y. z (ek ∙ y)))
-
-    pub root-value : k ≡ 0 → (v ≡ 0 → ⊥) → false ≡ label_rule (termed l c) t
-    unfolding label_rule
-    root-value y z = rw (view_term l c.terms t w, eq-eqb (term_at l t).forest_parent t (sym ep ∙ d), eq-eqb (term_at l t).label_kind 0 (sym ek ∙ y), ne_eqb (term_at l t).label_value 0 (λ x. z (ev ∙ x)))
-
-    pub root-stamp : (m : ℕ) → k ≡ 0 → v ≡ 0 → m ≡ (term_at l t).stamp → eqb m 0 ≡ label_rule (termed l c) t
-    unfolding label_rule
-    root-stamp m y z em = rw (view_term l c.terms t w, eq-eqb (term_at l t).forest_parent t (sym ep ∙ d), eq-eqb (term_at l t).label_kind 0 (sym ek ∙ y), eq-eqb (term_at l t).label_value 0 (sym ev ∙ z), ← em)
-
-  module _ (p : ℕ) (e : p ≡ (term_at l t).class_parent) where
-    pub alone-root : p ≡ t → true ≡ alone_at (termed l c) t
-    unfolding alone_at
-    alone-root d = or-stop _ _ (eq-eqb _ _ (sym (view_class l c.terms t p w e) ∙ d))
-
-    not_root : (p ≡ t → ⊥) → eqb (term (termed l c) t).class_parent t ≡ false
-    not_root d = ne_eqb _ _ (λ z. d (view_class l c.terms t p w e ∙ z))
-
-    pub alone-child : (b : Bool) → (p ≡ t → ⊥) → b ≡ is_string (termed l c) t → not b ≡ true → false ≡ alone_at (termed l c) t
-    unfolding alone_at
-    alone-child b d f h = or-next _ _ _ (not_root d) (and-stop _ _ (failed _ b f h))
-
-    pub alone-parent : (b r : Bool) → (p ≡ t → ⊥) → b ≡ is_string (termed l c) t → not b ≡ false → r ≡ is_string (termed l c) p → r ≡ alone_at (termed l c) t
-    unfolding alone_at
-    alone-parent b r d f h g = or-next _ _ _ (not_root d) (and-next _ _ r (passed _ b f h) (g ∙ ap (is_string (termed l c)) (view_class l c.terms t p w e)))
-
--- the label of an edge
-module _ (k v : ℕ) where
-  pub label_reason : (r : Bool) → 1 ≤ k → k < 3 → r ≡ is_number v → r ≡ edge_label k v
-  unfolding edge_label
-  label_reason r l h e =
-      let b : (eqb k 1 || eqb k 2) ≡ true = decide (eqb k 1) (λ q. rw q) (λ q. let z = eqb-false k 1 q in rw (q, eq-eqb k 2 (omega arith))) in
-      let f : ◌≡◌ {A = Bool} (is_number v || false || false) (is_number v) = right_falsum (is_number v || false) false refl ∙ right_falsum (is_number v) false refl in
-      rw (b, ne_eqb k 3 (λ z. omega arith), ne_eqb k 4 (λ z. omega arith)) (e ∙ sym f)
-
-  pub label_congruence : k ≡ 3 → true ≡ edge_label k v
-  unfolding edge_label
-  label_congruence e = rw e
-
-  pub label_definitional : k ≡ 4 → eqb v 0 ≡ edge_label k v
-  unfolding edge_label
-  label_definitional e = rw e
-
-  pub label_low : k < 1 → false ≡ edge_label k v
-  unfolding edge_label
-  label_low h = let e : k ≡ 0 = omega arith in rw e
-
-  pub label_high : 2 < k → (k ≡ 3 → ⊥) → (k ≡ 4 → ⊥) → false ≡ edge_label k v
-  unfolding edge_label
-  label_high h x y = rw (ne_eqb k 1 (λ e. omega arith), ne_eqb k 2 (λ e. omega arith), ne_eqb k 3 x, ne_eqb k 4 y)
 
 -- roots at hand
 module _ (l : List ℕ) (c : State) (t r q : ℕ) (h : Rooted (termed l c) c.terms t r q) where
@@ -262,15 +195,6 @@ module _ (l : List ℕ) (c : State) (t r q : ℕ) (h : Rooted (termed l c) c.ter
 
   pub top-here : within c.terms q ≡ true
   top-here = rw h.top_is (climb-within (forest_up (terms_view l c.terms)) c.terms (length (terms_view l c.terms)) t h.tops h.here)
-
-  pub ends-stop : (p : ℕ) → p ≡ (term_at l r).class_parent → (p ≡ r → ⊥) → false ≡ ends_rule (termed l c) t
-  unfolding ends_rule
-  ends-stop p e d = rw (← h.root_is) (and-stop _ _ (ne_eqb _ _ (λ z. d (view_class l c.terms r p root-here e ∙ z))))
-
-  pub ends_last : (p u : ℕ) → p ≡ (term_at l r).class_parent → p ≡ r → u ≡ (term_at l q).forest_parent → eqb u q ≡ ends_rule (termed l c) t
-  unfolding ends_rule
-  ends_last p u e d f = rw (← h.root_is, ← h.top_is)
-      (and-next _ _ _ (eq-eqb _ _ (sym (view_class l c.terms r p root-here e) ∙ d)) (ap (λ x. eqb x q) (view_forest l c.terms q u top-here f)))
 
   pub alike_is : (p u : ℕ) → p ≡ root (termed l c) q → u ≡ top (termed l c) r → (eqb p r && eqb u q) ≡ alike_at (termed l c) t
   unfolding alike_at
@@ -283,24 +207,6 @@ module _ (l : List ℕ) (c : State) (h : each_term (termed l c) (parents_rule (t
 
   pub seen-rooted : (t r q : ℕ) → within c.terms t ≡ true → r ≡ root (termed l c) t → q ≡ top (termed l c) t → Rooted (termed l c) c.terms t r q
   seen-rooted t r q w e f = record { here = w; roots = seen_up false; tops = seen_up true; root_is = e; top_is = f }
-
--- one term's tests, and the rule
-module _ (s : Store) (t : ℕ) where
-  pub test_ends : (b : Bool) → b ≡ ends_rule s t → not b ≡ true → false ≡ class_test s t
-  unfolding class_test
-  test_ends b e h = rw (failed _ b e h)
-
-  pub test_alike : (b : Bool) → b ≡ alike_at s t → not b ≡ true → false ≡ class_test s t
-  unfolding class_test
-  test_alike b e h = rw (right-false (ends_rule s t) (alike_at s t) (failed _ b e h))
-
-  pub test_label : (b : Bool) → b ≡ label_rule s t → not b ≡ true → false ≡ class_test s t
-  unfolding class_test
-  test_label b e h = rw (right-false (ends_rule s t && alike_at s t) (label_rule s t) (failed _ b e h))
-
-  pub test_alone : (x y z r : Bool) → x ≡ ends_rule s t → not x ≡ false → y ≡ alike_at s t → not y ≡ false → z ≡ label_rule s t → not z ≡ false → r ≡ alone_at s t → r ≡ class_test s t
-  unfolding class_test
-  test_alone x y z r ex hx ey hy ez hz e = rw (passed _ x ex hx, passed _ y ey hy, passed _ z ez hz) e
 
 -- the rule reads the terms alone
 pub classes-seen : (m : Lent) (c : State) → classes_rule (termed m.terms c) ≡ classes_rule (store_of m c)

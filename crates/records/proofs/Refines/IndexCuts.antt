@@ -3,7 +3,7 @@ use mathlib.Core.Path.{◌≡◌, refl, sym, ap, ◌∙◌}
 use mathlib.Core.Bool.{true}
 use mathlib.Core.List.{List}
 use mathlib.Core.Logic.{⊎_elim}
-use Prim.Native.Nat.{ℕ, suc, ◌+◌, ◌≤◌, ◌<◌}
+use Prim.Native.Nat.{ℕ, zero, suc, ◌+◌, ◌-◌, ◌≤◌, ◌<◌}
 use native.Mathlib.Nat.{eq-or-lt_of_le, le_of_suc-le-suc}
 use native.Mathlib.Numerals.{add-one}
 use native.Mathlib.Omega.{arith}
@@ -78,9 +78,12 @@ module _ (l l' l'' : List ℕ) (n : ℕ) where
   pub cutting_head : (b : ℕ) → term_words n ≤ length l → Cutting l l' n b 0 → b < buckets → l'' ≡ set l' b (cut_at n (get_or l' b 0)) → Cutting l l'' n (b + 1) 0
   cutting_head b r c h e = rw (e, add-one b) (head_put l l' n r (cut_at n (get_or l' b 0)) b c h refl)
 
-  pub cutting_ninth : (t : ℕ) → term_words n ≤ length l → Cutting l l' n 0 t → t < n
-      → l'' ≡ set l' (term_place (t + 1) 8) (cut_at n (get_or l' (term_place (t + 1) 8) 0)) → Cutting l l'' n 0 (t + 1)
-  cutting_ninth t r c h e = rw (e, add-one t) (ninth-put l l' n r (cut_at n (get_or l' (term_place (suc t) 8) 0)) t c h refl)
+  pub cutting_ninth : (t : ℕ) → term_words n ≤ length l → Cutting l l' n 0 (t - 1) → 0 < t → t ≤ n
+      → l'' ≡ set l' (term_place t 8) (cut_at n (get_or l' (term_place t 8) 0)) → Cutting l l'' n 0 t
+  cutting_ninth zero r c z h e = absurd (omega arith)
+  cutting_ninth (suc t) r c z h e =
+      let k : suc t - 1 ≡ t = omega arith in
+      rw e (ninth-put l l' n r (cut_at n (get_or l' (term_place (suc t) 8) 0)) t (rw k at c) h refl)
 
 -- first the heads, then the ninth words
 cutting_then : (l l₁ l' : List ℕ) (n : ℕ) → Cutting l l₁ n buckets 0 → Cutting l₁ l' n 0 n → Cutting l l' n buckets n

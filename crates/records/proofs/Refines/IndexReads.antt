@@ -1,6 +1,6 @@
 -- Reading the links of the index: the last term of each bucket that was met, and the test of each term and of each chain's end.
 use mathlib.Core.Path.{◌≡◌, refl, sym, ap, ◌∙◌}
-use mathlib.Core.Bool.{Bool, true, false, not, ◌&&◌}
+use mathlib.Core.Bool.{Bool, true, false, ◌&&◌}
 use mathlib.Core.List.{List}
 use Prim.Native.Nat.{ℕ, zero, suc, ◌+◌, ◌≤◌, ◌<◌}
 use native.Mathlib.Numerals.{add-one}
@@ -8,7 +8,7 @@ use native.Mathlib.Omega.{arith}
 use lib.ListN.{length, get_or, set, replicate, length-set, length-replicate}
 use lib.Seq.{get_or-set_same, get_or-set_other}
 use lib.Dec.{eqb, ltb}
-use borrow.Author.Tests.{not-true, not-false, eqb-true, eq-eqb, ne_eqb, lt-ltb}
+use borrow.Author.Tests.{eqb-true, eq-eqb, ne_eqb, lt-ltb}
 use Rattle.records.specs.Lists.{all_below}
 use Rattle.records.specs.Store.{Store, count}
 use Rattle.records.specs.View.{buckets}
@@ -30,29 +30,29 @@ module _ (l : List ℕ) (f : ℕ → ℕ) (n : ℕ) where
   reading-none come z = record { within = omega arith; room = z.room; read = below-zero _; met = λ b h. z.none_yet b h ∙ sym (last_one _) }
 
   module _ (i : ℕ) (come : List ℕ) (k : Reading l f n i come) where
-    module _ (h : i < n) (b : ℕ) (is : b ≡ f (i + 1)) (small : b < buckets) (x : ℕ) (word : x ≡ word_after l b (get_or come b 0)) where
+    module _ (h : i < n) (t : ℕ) (te : t ≡ i + 1) (b : ℕ) (is : b ≡ f t) (small : b < buckets) (x : ℕ) (word : x ≡ word_after l b (get_or come b 0)) where
+      here : b ≡ f (suc i)
+      here = rw (te, add-one i) at is
+
       test_is : link_test f n l i ≡ eqb x (suc i)
       test_is =
-          let e : b ≡ f (suc i) = rw (add-one i) at is in
+          let e = here in
           sym (rw (word, k.met b small, e))
 
-      pub reading-not : (x ≡ i + 1 → ⊥) → LinksRead l f n come false
+      pub reading-not : (x ≡ t → ⊥) → LinksRead l f n come false
       reading-not d = record {
-        is = sym (below_false (link_test f n l) n i h (test_is ∙ ne_eqb x (suc i) (λ e. d (e ∙ sym (add-one i)))));
+        is = sym (below_false (link_test f n l) n i h (test_is ∙ ne_eqb x (suc i) (λ e. d (e ∙ sym (add-one i) ∙ sym te))));
         come = λ z. clash z refl;
       }
 
-      pub reading-one : x ≡ i + 1 → (come' : List ℕ) → come' ≡ set come b (i + 1) → Reading l f n (i + 1) come'
-      reading-one e come' q = rw (q, add-one i) (record {
+      pub reading-one : x ≡ t → (come' : List ℕ) → come' ≡ set come b t → Reading l f n t come'
+      reading-one e come' q = rw (q, te, add-one i) (record {
         within = omega arith;
         room = rw (length-set come b (suc i)) k.room;
-        read = below_suc (link_test f n l) i k.read (test_is ∙ eq-eqb x (suc i) (e ∙ add-one i));
+        read = below_suc (link_test f n l) i k.read (test_is ∙ eq-eqb x (suc i) (e ∙ te ∙ add-one i));
         met = met;
       })
         where
-          here : b ≡ f (suc i)
-          here = rw (add-one i) at is
-
           met : (a : ℕ) → a < buckets → get_or (set come b (suc i)) a 0 ≡ last_in f (suc i) a
           met a s = decide (eqb (f (suc i)) a)
               (λ g. let z : b ≡ a = here ∙ eqb-true (f (suc i)) a g in
@@ -93,8 +93,8 @@ module _ (l : List ℕ) (s : Store) (n : ℕ) (many : count s ≡ n) (come : Lis
   unfolding index_rule
   rule_is = rw many (sym (links_are (bucket s) n l (λ t. bucket-small _ _)))
 
-  pub index-not : not r ≡ true → false ≡ index_rule l s
-  index-not e = sym (rule_is ∙ left_false _ _ (sym read.is ∙ not-true r e))
+  pub index-not : r ≡ false → r ≡ index_rule l s
+  index-not e = e ∙ sym (rule_is ∙ left_false _ _ (sym read.is ∙ e))
 
   same_ends : r ≡ true → (k : ℕ) → k ≤ buckets → all_below (λ b. eqb (word_after l b (get_or come b 0)) 0) k ≡ all_below (end_test (bucket s) n l) k
   unfolding all_below
@@ -104,7 +104,6 @@ module _ (l : List ℕ) (s : Store) (n : ℕ) (many : count s ≡ n) (come : Lis
       let m = read.come e k (omega arith) in
       rw (i, m)
 
-  pub index_is : (x : Bool) → not r ≡ false → x ≡ all_below (λ b. eqb (word_after l b (get_or come b 0)) 0) buckets → x ≡ index_rule l s
-  index_is x e q =
-      let t = not-false r e in
+  pub index_is : (x : Bool) → r ≡ true → x ≡ all_below (λ b. eqb (word_after l b (get_or come b 0)) 0) buckets → x ≡ index_rule l s
+  index_is x t q =
       q ∙ same_ends t buckets (omega arith) ∙ sym (rule_is ∙ ap (λ (b : Bool). b && all_below (end_test (bucket s) n l) buckets) (sym read.is ∙ t))

@@ -114,9 +114,6 @@ module _ {l : List ℕ} {n b : ℕ} (p : ℕ → Bool) where
       pub walk-next : x ≡ false → (u : ℕ) → u ≡ next_at l t → Walking l n b p u
       walk-next e u q = rw q (record { onwards = onwards_next w.onwards d; first = met _ (rw e) })
 
-    pub walk-fewer : (t ≡ 0 → ⊥) → (u : ℕ) → u ≡ next_at l t → to_meet n u < to_meet n t
-    walk-fewer d u q = rw q (meet_fewer w.onwards d)
-
     pub walk_none : t ≡ 0 → FirstIn l b p 0
     unfolding first_of
     walk_none e ts c = go w.onwards.walked (w.first ts c)

@@ -8,9 +8,9 @@ use lib.ListN.{length}
 use lib.Dec.{leb}
 use borrow.Author.Tests.{eqb-true}
 use Rattle.records.specs.declared.State.{State}
-use Rattle.records.specs.Lists.{all, concat_map, same_word, Every}
+use Rattle.records.specs.Lists.{all, concat_map, Every}
 use Rattle.records.specs.Store.{Out, within, is_constant, kind, term_in, text_in, text}
-use Rattle.records.specs.View.{lent, Lent, store_of, char_room, term_at, text_at, terms_view, chars_view, span, lengths}
+use Rattle.records.specs.View.{lent, Lent, store_of, char_room, term_at, text_at, terms_view, chars_view, lengths}
 use Rattle.records.specs.Rules.{is_char}
 use Rattle.records.specs.Make.{make_constant}
 use Rattle.records.specs.Index.{bucket_of}
@@ -25,19 +25,7 @@ use Rattle.records.proofs.Grown.{kind-term}
 use Rattle.records.proofs.Readings.{text-characters}
 use Rattle.records.proofs.Doing.{working_is}
 use Rattle.records.proofs.Refines.JoinedTexts.{lengths-concat_map}
-use Rattle.records.proofs.Refines.Making.{other_length, same_kind, text_searchable, constant-made, long-room}
-
--- WHETHER A TERM HAS THE JOINED TEXT
-
-module _ (l h ts : List ℕ) (t x : ℕ) (ex : x ≡ (term_at l t).kind) (y total : ℕ) (ey : y ≡ (term_at l t).second) (sum : total ≡ lengths l ts) where
-  pub joined-other : (y ≡ total → ⊥) → false ≡ has_text l h 1 (concat_map (text_at l h) ts) t
-  joined-other d = other_length l h 1 (concat_map (text_at l h) ts) t x ex y ey (λ e. d (e ∙ lengths-concat_map l h ts ∙ sym sum))
-
-  pub joined-equal : (z : ℕ) (b : Bool) → x ≡ 1 → y ≡ total → z ≡ (term_at l t).first → b ≡ same_word (span h z (lengths l ts)) (concat_map (text_at l h) ts)
-      → b ≡ has_text l h 1 (concat_map (text_at l h) ts) t
-  joined-equal z b k e ez r =
-      let n = lengths-concat_map l h ts in
-      same_kind l h 1 (concat_map (text_at l h) ts) t x ex y ey z b k (e ∙ sum ∙ sym n) ez (rw n r)
+use Rattle.records.proofs.Refines.Making.{text_searchable, constant-made, long-room}
 
 -- CONSTANTS of the store
 

@@ -1,14 +1,13 @@
 -- The joined texts of a list of terms: counted, compared and copied one after the other.
 use mathlib.Core.Path.{◌≡◌, refl, sym, ap, ◌∙◌}
-use mathlib.Core.Bool.{Bool, true, false, not, ◌&&◌}
+use mathlib.Core.Bool.{Bool, true, false, ◌&&◌}
 use mathlib.Core.List.{List, [], ◌∷◌, ◌++◌, map, map-append}
 use Prim.Native.Nat.{ℕ, suc, ◌+◌, ◌*◌, ◌<◌, ◌≤◌}
 use native.Mathlib.Numerals.{add-one}
 use native.Mathlib.Nat.{add_assoc}
 use native.Mathlib.Omega.{arith}
-use lib.ListN.{length, get_or, set, take, drop, length-append, drop_of_length-le, take-append-drop}
+use lib.ListN.{length, get_or, take, drop, length-append, drop_of_length-le, take-append-drop}
 use lib.Seq.{drop-cons, take-suc, take_all}
-use borrow.Author.Tests.{not-true, not-false}
 use Rattle.records.specs.Lists.{table, concat_map, same_word, Every}
 use Rattle.records.specs.View.{span, text_at, term_at, lengths, chars_view}
 use Rattle.records.specs.Working.Puts.{CharsPut, TextsWithin}
@@ -16,7 +15,7 @@ use Rattle.records.specs.Working.Standard.{standard_join, HoldsJoin, PartAdded}
 use Rattle.records.proofs.Lists.{left_false, word-append, every_at, every_map, every_left, table_at_lem, table_same, table_add, table-length, concat_map-same}
 use Rattle.records.proofs.Standard.{join-next, join-all, join-same}
 use Rattle.records.proofs.Loops.{Summing, summing_turn}
-use Rattle.records.proofs.Refines.Texts.{Copied, copied-one, copied_all, lower_view, put_word}
+use Rattle.records.proofs.Refines.Texts.{lower_view, put_word}
 
 -- COUNTED
 
@@ -51,16 +50,6 @@ pub summed_one : (l ts : List ℕ) (total i n : ℕ) → Summing (lengths l) 429
 summed_one l ts total i n s h e b = summing_turn (lengths l) 4294967295 ts total i s (λ t. (term_at l t).second) (lengths-cons l) n h e b
 
 -- COPIED within the slice, from below the place
-
-module _ (l l' : List ℕ) (from n to i : ℕ) (a : Copied l l' to (span l from n) i) where
-  pub moved-one : i < n → from + n ≤ to → to + n ≤ length l → Copied l (set l' (to + i) (get_or l' (from + i) 0)) to (span l from n) (i + 1)
-  moved-one h b f =
-      let m = table-length (λ j. get_or l (from + j) 0) n in
-      copied-one l l' to (span l from n) i (get_or l' (from + i) 0) a (omega arith) (omega arith)
-      (a.lower (from + i) (omega arith) ∙ sym (table_at_lem (λ j. get_or l (from + j) 0) n i 0 h))
-
-  pub moved_all : n ≤ i → CharsPut l l' to (span l from n)
-  moved_all h = let m = table-length (λ j. get_or l (from + j) 0) n in copied_all l l' to (span l from n) i a (omega arith)
 
 -- COMPARED text by text
 
@@ -98,13 +87,13 @@ module _ (l h ts : List ℕ) (p q i : ℕ) (m : Matched l h ts p q i) where
   matched-all b = let z : drop i ts ≡ [] = drop_of_length-le ts b in rw z at m.rest
 
   module _ (b : i < length ts) (a n : ℕ) (ea : a ≡ (term_at l (get_or ts i 0)).first) (en : n ≡ (term_at l (get_or ts i 0)).second) (r : Bool) (same : r ≡ same_word (span h q n) (span h a n)) where
-    pub matched-stop : not r ≡ true → false ≡ left_from l h ts p 0
-    matched-stop d = sym (left_false _ _ (sym same ∙ not-true r d)) ∙ sym (left_at l h ts q i a n b ea en) ∙ m.rest
+    pub matched-stop : r ≡ false → false ≡ left_from l h ts p 0
+    matched-stop d = sym (left_false _ _ (sym same ∙ d)) ∙ sym (left_at l h ts q i a n b ea en) ∙ m.rest
 
-    pub matched-one : not r ≡ false → n ≤ 4294967295 → Matched l h ts p (q + n) (i + 1)
+    pub matched-one : r ≡ true → n ≤ 4294967295 → Matched l h ts p (q + n) (i + 1)
     matched-one d s =
         let k = m.small in
-        let e : same_word (span h q n) (span h a n) ≡ true = sym same ∙ not-false r d in
+        let e : same_word (span h q n) (span h a n) ≡ true = sym same ∙ d in
         let f = left_at l h ts q i a n b ea en in
         record { within = omega arith; small = omega arith; rest = rw add-one ((sym (rw e at f)) ∙ m.rest) }
 

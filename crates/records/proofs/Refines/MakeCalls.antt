@@ -1,72 +1,60 @@
 -- The public calls that make constants and variables.
 use mathlib.Core.Path.{◌≡◌, refl, sym, ap, ◌∙◌}
-use mathlib.Core.Bool.{Bool, true, false, not, ◌&&◌}
+use mathlib.Core.Bool.{Bool, true, false, ◌&&◌}
 use mathlib.Core.List.{List}
 use Prim.Native.Nat.{ℕ}
 use native.Mathlib.Omega.{arith}
-use lib.ListN.{length, get_or}
-use lib.Seq.{ext_get_or}
+use lib.ListN.{length}
 use lib.Dec.{leb}
-use borrow.Author.Tests.{not-true, not-false, le-leb, lt-leb}
+use borrow.Author.Tests.{le-leb, lt-leb}
 use Rattle.records.specs.declared.State.{State}
-use Rattle.records.specs.declared.Made.{Made}
-use Rattle.records.specs.declared.Made.TheVariants.{Term, Refused}
+use Rattle.std.specs.Prelude.{Result, Ok, Err}
+use Rattle.records.specs.declared.refusal.Refusal.{Refusal}
 use Rattle.records.specs.Lists.{all}
 use Rattle.records.specs.Store.{Out, stop}
-use Rattle.records.specs.View.{Lent, lent, store_of, chars_view}
+use Rattle.records.specs.View.{Lent, lent, store_of}
 use Rattle.records.specs.Rules.{is_char, audit}
 use Rattle.records.specs.Make.{make_constant, make_variable, constant_arguments, variable_arguments}
+use Rattle.records.specs.Refusal.{number}
 use Rattle.records.specs.Calls.{call, made, Public}
-use Rattle.records.specs.Working.Doing.{Working, CutRefused, unmade}
-use Rattle.records.proofs.Lists.{table_at_lem, table-length, left_false, both_true, and-next}
+use Rattle.records.specs.Working.Doing.{Working, CutRefused}
+use Rattle.records.proofs.Lists.{left_false, both_true, and-next}
 use Rattle.records.proofs.Kept.{constant-stops, variable-stops}
 use Rattle.records.proofs.Outcomes
 use Rattle.records.proofs.Outcomes.{refused-by}
-use Rattle.records.proofs.Public.{Undone, given, cut, call_unready, call-unfit, call_undone}
+use Rattle.records.proofs.Public.{Undone, given, cut, call-unfit, call_undone}
 
--- the whole of a word
-pub whole_word : (w : List ℕ) → chars_view w (length w) ≡ w
-whole_word w =
-    let e = table-length (λ i. get_or w i 0) (length w) in
-    ext_get_or 0 (chars_view w (length w)) w e (λ i h. table_at_lem (λ j. get_or w j 0) (length w) i 0 (omega arith))
+module _ (w : List ℕ) (b : Bool) (test : b ≡ all is_char w) where
+  wrong : b ≡ false → all is_char w ≡ false
+  wrong d = sym test ∙ d
 
-module _ (w : List ℕ) (b : Bool) (test : b ≡ all is_char (chars_view w (length w))) where
-  wrong : not b ≡ true → all is_char w ≡ false
-  wrong d = sym (ap (all is_char) (whole_word w)) ∙ sym test ∙ not-true b d
+  pub right : b ≡ true → all is_char w ≡ true
+  right d = sym test ∙ d
 
-  pub right : not b ≡ false → all is_char w ≡ true
-  right d = sym (ap (all is_char) (whole_word w)) ∙ sym test ∙ not-false b d
-
-  pub right_name : (length w ≡ 0 → ⊥) → not b ≡ false → (leb 1 (length w) && all is_char w) ≡ true
+  pub right_name : (length w ≡ 0 → ⊥) → b ≡ true → (leb 1 (length w) && all is_char w) ≡ true
   right_name long d = both_true (leb 1 (length w)) (all is_char w) (le-leb 1 (length w) (omega arith)) (right d)
 
 -- the answer of a make, handed on: after a refusal the index is cut
-pub undone-made : {t t' : List ℕ} (e h r ks : List ℕ) {n : ℕ} (x : Made) {o : Made} → CutRefused unmade t t' n x o → Undone (lent t e h r ks) (lent t' e h r ks) n (made x (lent t e h r ks)) (made o (lent t' e h r ks))
-undone-made {t} e h r ks (Term u d) p =
-    given (store_of (lent t e h r ks) d) u refl (rw (p.same, p.given refl)) (ap (λ (l : List ℕ). lent l e h r ks) (p.given refl))
-undone-made e h r ks (Refused k) p = cut k refl (rw p.same) (p.refused refl) (record { cells = refl; chars = refl; reasons = refl; keys = refl })
+pub undone-made : {t t' : List ℕ} (e h r ks : List ℕ) {n : ℕ} (x : Result (ℕ × State) Refusal) {o : Result (ℕ × State) Refusal} → CutRefused t t' n x o → Undone (lent t e h r ks) (lent t' e h r ks) n (made x (lent t e h r ks)) (made o (lent t' e h r ks))
+undone-made {t} e h r ks (Ok x) p =
+    given (store_of (lent t e h r ks) x.1) x.0 refl (rw (p.same, p.given refl)) (ap (λ (l : List ℕ). lent l e h r ks) (p.given refl))
+undone-made e h r ks (Err k) p = cut (number k) refl (rw p.same) (p.refused refl) (record { cells = refl; chars = refl; reasons = refl; keys = refl })
 
 -- a make is refused under 8
 pub full-stops : {j : ℕ} → j ≡ 8 → Outcomes.Refused 9 j
 full-stops e = refused-by 8 (omega arith) (omega arith) e
 
 module _ (w : List ℕ) (m : Lent) (c : State) (k : ℕ) (verdict : k ≡ audit m c) where
-  pub constant_unready : (k ≡ 0 → ⊥) → Public (call (constant_arguments w) (make_constant w) m c) m m c (stop k)
-  constant_unready = call_unready (constant_arguments w) (make_constant w) m c k verdict
-
-  pub variable_unready : (k ≡ 0 → ⊥) → Public (call (variable_arguments w) (make_variable w) m c) m m c (stop k)
-  variable_unready = call_unready (variable_arguments w) (make_variable w) m c k verdict
-
   module _ (zero_is : k ≡ 0) where
     pub variable-empty : length w ≡ 0 → Public (call (variable_arguments w) (make_variable w) m c) m m c (stop 5)
     variable-empty e =
         call-unfit (variable_arguments w) (make_variable w) m c k verdict zero_is _ refl (left_false _ _ (lt-leb 1 (length w) (omega arith)))
 
-    module _ (b : Bool) (test : b ≡ all is_char (chars_view w (length w))) where
-      pub constant-unfit : not b ≡ true → Public (call (constant_arguments w) (make_constant w) m c) m m c (stop 5)
+    module _ (b : Bool) (test : b ≡ all is_char w) where
+      pub constant-unfit : b ≡ false → Public (call (constant_arguments w) (make_constant w) m c) m m c (stop 5)
       constant-unfit d = call-unfit (constant_arguments w) (make_constant w) m c k verdict zero_is _ refl (wrong w b test d)
 
-      pub constant_called : not b ≡ false → {m₁ m' : Lent} {r₁ r : Out ℕ} → Working (make_constant w) m m₁ c r₁ → Undone m₁ m' c.terms r₁ r
+      pub constant_called : b ≡ true → {m₁ m' : Lent} {r₁ r : Out ℕ} → Working (make_constant w) m m₁ c r₁ → Undone m₁ m' c.terms r₁ r
           → Public (call (constant_arguments w) (make_constant w) m c) m m' c r
       constant_called d =
           call_undone (constant_arguments w) (make_constant w) m c k verdict zero_is _ refl (right w b test d)
@@ -76,12 +64,12 @@ module _ (w : List ℕ) (m : Lent) (c : State) (k : ℕ) (verdict : k ≡ audit 
         filled : leb 1 (length w) ≡ true
         filled = le-leb 1 (length w) (omega arith)
 
-        pub variable-unfit : not b ≡ true → Public (call (variable_arguments w) (make_variable w) m c) m m c (stop 5)
+        pub variable-unfit : b ≡ false → Public (call (variable_arguments w) (make_variable w) m c) m m c (stop 5)
         variable-unfit d =
             call-unfit (variable_arguments w) (make_variable w) m c k verdict zero_is _ refl
             (sym (and-next (leb 1 (length w)) (all is_char w) false filled (sym (wrong w b test d))))
 
-        pub variable_called : not b ≡ false → {m₁ m' : Lent} {r₁ r : Out ℕ} → Working (make_variable w) m m₁ c r₁ → Undone m₁ m' c.terms r₁ r
+        pub variable_called : b ≡ true → {m₁ m' : Lent} {r₁ r : Out ℕ} → Working (make_variable w) m m₁ c r₁ → Undone m₁ m' c.terms r₁ r
             → Public (call (variable_arguments w) (make_variable w) m c) m m' c r
         variable_called d =
             call_undone (variable_arguments w) (make_variable w) m c k verdict zero_is _ refl

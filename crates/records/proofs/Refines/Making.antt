@@ -8,12 +8,13 @@ use native.Mathlib.Numerals.{add-one}
 use native.Mathlib.Omega.{arith}
 use lib.ListN.{length, get_or}
 use lib.Dec.{eqb, ltb, leb}
-use borrow.Author.Tests.{not-true, not-false, leb-true, le-leb, eqb-true, eq-eqb, ne_eqb}
+use borrow.Author.Tests.{not-true, not-false, leb-true, le-leb, eqb-true}
 use Rattle.records.specs.Lists.{same_word, first_below}
 use Rattle.records.specs.declared.State.{State}
 use Rattle.records.specs.Store.{Term as Record, Store, Out, ok, stop, Work, count, within, term, kind, term_in, text_in}
-use Rattle.records.specs.declared.Made.TheVariants.{Term, Refused}
-use Rattle.records.specs.View.{buckets, lent, term_words, term_limit, char_limit, char_room, term_room, one_term, more_chars, Lent, store_of, term_at, terms_view, chars_view, span}
+use Rattle.std.specs.Prelude.{Ok, Err}
+use Rattle.records.specs.declared.refusal.Refusal.TheVariants.{Room}
+use Rattle.records.specs.View.{buckets, lent, term_words, term_limit, char_limit, char_room, term_room, one_term, more_chars, Lent, store_of, term_at, terms_view, chars_view, span, text_at}
 use Rattle.records.specs.Working.Audited.{Ready, Sized}
 use Rattle.records.specs.Calls.{made}
 use Rattle.records.specs.Working.Doing.{Working, Building}
@@ -31,28 +32,19 @@ use Rattle.records.proofs.IndexSays.{bucket-small}
 use Rattle.records.proofs.IndexLaws.{index_walkable}
 use Rattle.records.proofs.IndexStores.{bucket-text}
 use Rattle.records.proofs.Doing.{works, building_is, building_stopped, building_found, indexed-made, made-text, ready-index, made-good, constant-fit, variable-fit}
-use Rattle.records.proofs.Lists.{same_test, decide, within_low, within-high, first-same, both_left, both_right, left_false, right-false, word_is, word-differs, table-length}
+use Rattle.records.proofs.Lists.{same_test, decide, within_low, within-high, first-same, both_left, both_right, word_is, word-differs, table-length}
 
 -- WHETHER A TERM HAS A TEXT
 
-module _ (l h : List ℕ) (k : ℕ) (w : List ℕ) (t x : ℕ) (ex : x ≡ (term_at l t).kind) where
-  pub other-kind : (x ≡ k → ⊥) → false ≡ has_text l h k w t
-  unfolding has_text
-  other-kind d = sym (left_false _ _ (ne_eqb _ _ (λ e. d (ex ∙ e))))
+module _ (l h : List ℕ) (w : List ℕ) (t : ℕ) where
+  -- a text of another length is another
+  pub word_long : ((term_at l t).second ≡ length w → ⊥) → same_word (text_at l h t) w ≡ false
+  word_long d =
+      word-differs _ w (λ e. d (sym (table-length (λ i. get_or h ((term_at l t).first + i) 0) (term_at l t).second) ∙ ap length e))
 
-  module _ (y : ℕ) (ey : y ≡ (term_at l t).second) where
-    pub other_length : (y ≡ length w → ⊥) → false ≡ has_text l h k w t
-    unfolding has_text
-    other_length d =
-        sym (right-false (eqb (term_at l t).kind k) _ (word-differs _ w (λ e.
-        d (ey ∙ sym (table-length (λ i. get_or h ((term_at l t).first + i) 0) (term_at l t).second) ∙ ap length e))))
-
-    pub same_kind : (z : ℕ) (b : Bool) → x ≡ k → y ≡ length w → z ≡ (term_at l t).first → b ≡ same_word (span h z (length w)) w → b ≡ has_text l h k w t
-    unfolding has_text
-    same_kind z b e q ez r =
-        let a : eqb (term_at l t).kind k ≡ true = eq-eqb _ _ (sym ex ∙ e) in
-        let v : length w ≡ (term_at l t).second = sym q ∙ ey in
-        rw (a, ← v, ← ez) r
+  -- of one of the same length the characters are looked at
+  pub word_spelled : (term_at l t).second ≡ length w → same_word (text_at l h t) w ≡ same_word (span h (term_at l t).first (length w)) w
+  word_spelled e = rw e refl
 
 -- THE LOWEST-NUMBERED in the store
 
@@ -164,17 +156,17 @@ walk-to {m} {c} k w ready b e = let small : b < buckets = rw e (bucket-small k w
 -- A NEW TEXT in the words: the tests of room, for n characters
 
 module _ {t e h r ks : List ℕ} {c : State} (k : ℕ) (w : List ℕ) (n : ℕ) (long : n ≡ length w) (f : Bool) (fits : f ≡ leb (c.chars + n) (char_room h)) where
-  pub text-long : not f ≡ true → Building (append_text k w) (lent t e h r ks) (lent t e h r ks) c (made (Refused 8) (lent t e h r ks))
+  pub text-long : not f ≡ true → Building (append_text k w) (lent t e h r ks) (lent t e h r ks) c (made (Err Room) (lent t e h r ks))
   text-long q = building_stopped (append-long k w _ (rw (table-length, ← long) (sym fits ∙ not-true f q)))
 
   module _ (q : not f ≡ false) (g : Bool) (one : g ≡ ltb c.terms (term_room t)) where
-    pub text-full : not g ≡ true → Building (append_text k w) (lent t e h r ks) (lent t e h r ks) c (made (Refused 8) (lent t e h r ks))
+    pub text-full : not g ≡ true → Building (append_text k w) (lent t e h r ks) (lent t e h r ks) c (made (Err Room) (lent t e h r ks))
     text-full u = building_stopped (append-full k w _ (rw (table-length, ← long) (sym fits ∙ not-false f q)) (rw table-length (sym one ∙ not-true g u)))
 
     module _ (ready : Ready (lent t e h r ks) c) (text : within 2 k ≡ true) (b : ℕ) (bucketed : b ≡ bucket_of k w) where
       pub text-made : not g ≡ false → {t' h' : List ℕ} {d d' : State} → CharsPut h h' c.chars w → length h' ≡ length h
           → TermPut t t' c.terms k c.chars n b → length t' ≡ length t → d ≡ more_chars c n → d' ≡ one_term d
-          → Building (append_text k w) (lent t e h r ks) (lent t' e h' r ks) c (made (Term (c.terms + 1) d') (lent t' e h' r ks))
+          → Building (append_text k w) (lent t e h r ks) (lent t' e h' r ks) c (made (Ok ((c.terms + 1), d')) (lent t' e h' r ks))
       text-made u {t'} {h'} {d} {d'} p lp v lv x y =
           record {
             says = new ∙ stored;
@@ -201,7 +193,7 @@ module _ {t e h r ks : List ℕ} {c : State} (ready : Ready (lent t e h r ks) c)
   looked : t₀ ≡ number_of (lookup (text_of k w) (store_of (lent t e h r ks) c))
   looked = look ∙ ap number_of (found-text (lent t e h r ks) c k w (texts-within (lent t e h r ks) c k ready text))
 
-  pub text-found : (t₀ ≡ 0 → ⊥) → Building (make_text k w) (lent t e h r ks) (lent t e h r ks) c (made (Term t₀ c) (lent t e h r ks))
+  pub text-found : (t₀ ≡ 0 → ⊥) → Building (make_text k w) (lent t e h r ks) (lent t e h r ks) c (made (Ok (t₀, c)) (lent t e h r ks))
   unfolding make_text
   text-found d = building_found ready (lowest-old (text_of k w) (append_text k w) (store_of (lent t e h r ks) c) t₀ looked d)
 

@@ -1,44 +1,36 @@
 -- Names are unique (src/unique.rt): hashes of texts, chains of variables by their hashes, and a walk down one chain.
 use mathlib.Core.Path.{◌≡◌, refl, sym, ap, ◌∙◌}
 use mathlib.Core.Bool.{Bool, true, false, not, ◌&&◌}
-use mathlib.Core.List.{List, ◌∷◌, ◌++◌, []}
+use mathlib.Core.List.{List, []}
 use Prim.Native.Nat.{ℕ, suc, ◌+◌, ◌-◌, ◌*◌, ◌/◌, ◌%◌, ◌<◌, ◌≤◌}
 use mathlib.Core.Logic.{◌⊎◌, ⊎_elim}
 use native.Mathlib.Nat.{eq-or-lt_of_le}
 use native.Mathlib.Numerals.{add-one}
 use native.Mathlib.Omega.{arith}
-use lib.ListN.{length, get_or, take, drop, set, replicate, length-set, length-replicate, get_or-replicate}
+use lib.ListN.{length, get_or, take, drop, drop_of_length-le, set, replicate, length-set, length-replicate, get_or-replicate}
 use lib.Seq.{get_or-set_same, get_or-set_other}
 use lib.Dec.{eqb, ltb}
 use borrow.Author.Tests.{eqb-true, eq-eqb, ne_eqb, leb-true, lt-ltb, le-ltb}
 use Rattle.records.specs.declared.State.{State}
-use Rattle.records.specs.Lists.{all_below, table, same_word}
+use Rattle.records.specs.Lists.{all_below, same_word}
 use Rattle.records.specs.Store.{Term, Store, term, within, is_variable, text, term_in}
 use Rattle.records.specs.View.{lent, store_of, term_at, chars_view, span}
 use Rattle.records.specs.Working.Leaves.{has_text}
 use Rattle.records.specs.Rules.{text_rule, named, name_rule}
 use Rattle.records.specs.Working.Hashes.{mixed, hash_from, hash, Hashed, in_chain, highest, Tables, Passing}
-use Rattle.records.proofs.Lists.{both_left, both_right, both_true, left_false, right-false, right-true, and-stop, and-next, clash, decide, within_low, within-high, below_false, below_suc, below-zero, last_hit, last-pass, last_one, last-low, last-passes, last-all, table-length, word_is}
+use Rattle.records.proofs.Lists.{both_left, both_right, both_true, left_false, right-false, right-true, and-stop, and-next, clash, decide, within_low, within-high, below_false, below_suc, below-zero, last_hit, last-pass, last_one, last-low, last-passes, last-all, table-length, word_is, drop_head}
 use Rattle.records.proofs.Views.{term_is, part-span, text-span, first-at, second_at}
 use Rattle.records.proofs.Grown.{kind-term, present}
 
 -- HASHES
 
-pub hash-append : (h x : ℕ) (w : List ℕ) → hash_from h (w ++ (x ∷ [])) ≡ mixed (hash_from h w) x
+pub hash-turn : (w : List ℕ) (h i x a : ℕ) → hash_from h (drop i w) ≡ a → i < length w → x ≡ get_or w i 0 → hash_from ((69069 * h + h / 65536 + x) % 4294967291) (drop (i + 1) w) ≡ a
+unfolding hash_from mixed
+hash-turn w h i x a e l q = rw q (rw (drop_head w i l) at e)
+
+pub hash-done : (w : List ℕ) (h i a : ℕ) → hash_from h (drop i w) ≡ a → length w ≤ i → h ≡ a
 unfolding hash_from
-hash-append h x [] = refl
-hash-append h x (y ∷ w) = hash-append (mixed h y) x w
-
-pub hash-none : (l : List ℕ) (p : ℕ) → 1 ≡ hash_from 1 (span l p 0)
-unfolding hash_from table
-hash-none l p = refl
-
-pub hash-turn : (l : List ℕ) (p i h x : ℕ) → h ≡ hash_from 1 (span l p i) → x ≡ get_or l (p + i) 0 → (69069 * h + h / 65536 + x) % 4294967291 ≡ hash_from 1 (span l p (i + 1))
-unfolding mixed table
-hash-turn l p i h x e q = rw (add-one i, hash-append 1 (get_or l (p + i) 0) (span l p i), ← q, ← e)
-
-pub hash-done : (l : List ℕ) (p n i h : ℕ) → h ≡ hash_from 1 (span l p i) → i ≤ n → n ≤ i → h ≡ hash_from 1 (span l p n)
-hash-done l p n i h e a b = let q : i ≡ n = omega arith in rw q at e
+hash-done w h i a e l = rw (drop_of_length-le w l) at e
 
 -- whether a text is within the count is read from the terms and the count alone
 pub text_anywhere : (l e h e' h' : List ℕ) (c : State) (t : ℕ) → text_rule (store_of (lent l e h [] []) c) t ≡ text_rule (store_of (lent l e' h' [] []) c) t
@@ -86,9 +78,6 @@ module _ (l h : List ℕ) (c : State) where
 
     pub name_part : c.chars ≤ length h → take ((p + n) - p) (drop p h) ≡ text here t
     name_part r = let e : (p + n) - p ≡ n = omega arith in rw (e, part-span h p n (name_ends r)) name_span
-
-    pub hash-is : (r : ℕ) → r ≡ hash_from 1 (span h p n) → r ≡ hash here t
-    hash-is r q = q ∙ ap (hash_from 1) name_span
 
   -- ONE NAME
 

@@ -7,15 +7,14 @@ use Prim.Native.Nat.{ℕ, suc, ◌+◌, ◌-◌, ◌≤◌, ◌<◌}
 use native.Mathlib.Omega.{arith}
 use lib.ListN.{length}
 use lib.Dec.{eqb}
-use borrow.Author.Tests.{eq-eqb, ne_eqb, not-false}
 use Rattle.records.specs.declared.State.{State}
 use Rattle.records.specs.Lists.{all, same_word, firsts, seconds, Every, and}
-use Rattle.records.specs.Store.{Cell, cell_in, term, kind, within, chain_by, chain_in, chain}
+use Rattle.records.specs.Store.{Cell, cell_in, term, within, chain_by, chain_in, chain}
 use Rattle.records.specs.View.{Lent, store_of, cell_at, cells_view, termed, chained, term_at}
 use Rattle.records.specs.Rules.{falls_rule, pairs_of, congruence_rule, edge_rule, congruences_rule}
 use Rattle.records.specs.Working.Leaves.{pair_words, pair_meets}
 use Rattle.records.specs.Working.Audited.{Sized, Classed, Recorded, Part, TermPair, Congruable}
-use Rattle.records.proofs.Lists.{both_left, both_right, both_true, either, every_map, every_both, every_firsts, firsts_every, seconds_every, word_is, and-stop, or-stop, or-next, left_false, right-false, failed, passed, decide, table-length}
+use Rattle.records.proofs.Lists.{both_left, both_right, either, every_map, every_both, every_firsts, firsts_every, seconds_every, word_is, and-stop, right-false, decide, table-length}
 use Rattle.records.proofs.Views.{kind_at, first-at, value-at, other_at, next_at_lem}
 use Rattle.records.proofs.Climbs.{view_term, view_forest, ready_up, within-term, term-within}
 use Rattle.records.proofs.Refines.ClassLaws.{four-of}
@@ -79,31 +78,15 @@ module _ (l : List ℕ) (n : ℕ) where
   cell-within : (v : ℕ) → within (length (cells_view l n)) v ≡ within n v
   cell-within v = ap (λ m. within m v) cells_count
 
-  module _ (x y z : ℕ) where
-    pub meets-one : (b : Bool) → b ≡ within n y → not b ≡ true → false ≡ pair_meets (cells_view l n) x y z
-    unfolding pair_meets
-    meets-one b e h = rw (cell-within y, failed _ b e h)
-
-    pub meets-other : (b : Bool) → b ≡ within n z → not b ≡ true → false ≡ pair_meets (cells_view l n) x y z
-    unfolding pair_meets
-    meets-other b e h =
-        let g : within (length (cells_view l n)) z ≡ false = cell-within z ∙ failed _ b e h in
-        rw (right-false (within (length (cells_view l n)) y) (within (length (cells_view l n)) z) g)
-
-    module _ (v a : ℕ) (w : within n x ≡ true) (wy : within n y ≡ true) (ev : v ≡ (cell_at l x).value) (ea : a ≡ (cell_at l y).value) where
-      value_test : eqb v a ≡ eqb (cell_in (cells_view l n) x).value (cell_in (cells_view l n) y).value
-      value_test = rw (← value-at l n x v w ev, ← value-at l n y a wy ea)
-
-      pub meets-value : (v ≡ a → ⊥) → false ≡ pair_meets (cells_view l n) x y z
-      unfolding pair_meets
-      meets-value d =
-          let g : eqb (cell_in (cells_view l n) x).value (cell_in (cells_view l n) y).value ≡ false = sym value_test ∙ ne_eqb v a d in
-          rw (right-false (within (length (cells_view l n)) y && within (length (cells_view l n)) z) (eqb (cell_in (cells_view l n) x).value (cell_in (cells_view l n) y).value) g)
-
-      pub meets-last : (o b : ℕ) → within n z ≡ true → v ≡ a → o ≡ (cell_at l x).other → b ≡ (cell_at l z).value → eqb o b ≡ pair_meets (cells_view l n) x y z
-      unfolding pair_meets
-      meets-last o b wz d eo eb =
-          rw (cell-within y, cell-within z, wy, wz, sym value_test ∙ eq-eqb v a d, ← other_at l n x o w eo, ← value-at l n z b wz eb)
+  -- the words that the code reads
+  pub meets-words : (x y z : ℕ) → within n x ≡ true →
+      (within n y && within n z && eqb (cell_at l x).value (cell_at l y).value && eqb (cell_at l x).other (cell_at l z).value) ≡ pair_meets (cells_view l n) x y z
+  unfolding pair_meets
+  meets-words x y z w = rw (cell-within y, cell-within z) (decide (within n y)
+      (λ p. decide (within n z)
+      (λ q. rw (p, q, ← value-at l n x _ w refl, ← value-at l n y _ p refl, ← other_at l n x _ w refl, ← value-at l n z _ q refl))
+      (λ q. rw (p, q)))
+      (λ p. rw p))
 
 -- the loop: what is left of the chains from x, y and z is what was asked of those from p, a and b
 pub record Linking (l : List ℕ) (n p a b x y z i : ℕ) : Type 0 where
@@ -123,20 +106,20 @@ module _ (l : List ℕ) (n p a b x y z i : ℕ) (k : Linking l n p a b x y z i) 
   pub linking_done : n ≤ i → true ≡ pair_words (chain_in (cells_view l n) p) (chain_in (cells_view l n) a) (chain_in (cells_view l n) b)
   linking_done h = let e : n - i ≡ 0 = omega arith in sym (linked-zero (cells_view l n) x y z) ∙ (rw e at k.left) ∙ whole
 
-  pub linking_end : (c r : Bool) → i < n → c ≡ within n x → not c ≡ true → r ≡ (not (within n y) && not (within n z)) → r ≡ pair_words (chain_in (cells_view l n) p) (chain_in (cells_view l n) a) (chain_in (cells_view l n) b)
+  pub linking_end : (c r : Bool) → i < n → c ≡ within n x → c ≡ false → r ≡ (not (within n y) && not (within n z)) → r ≡ pair_words (chain_in (cells_view l n) p) (chain_in (cells_view l n) a) (chain_in (cells_view l n) b)
   linking_end c r h e f g =
-      g ∙ (rw (← cell-within l n y, ← cell-within l n z) (sym (linked-end (cells_view l n) x y z (n - (i + 1)) (cell-within l n x ∙ failed _ c e f)))) ∙ at_left h ∙ whole
+      g ∙ (rw (← cell-within l n y, ← cell-within l n z) (sym (linked-end (cells_view l n) x y z (n - (i + 1)) (cell-within l n x ∙ sym e ∙ f)))) ∙ at_left h ∙ whole
 
-  module _ (c r : Bool) (h : i < n) (e : c ≡ within n x) (f : not c ≡ false) (g : r ≡ pair_meets (cells_view l n) x y z) where
-    pub linking_stop : not r ≡ true → false ≡ pair_words (chain_in (cells_view l n) p) (chain_in (cells_view l n) a) (chain_in (cells_view l n) b)
-    linking_stop d = sym (linked-stop (cells_view l n) x y z (n - (i + 1)) (cell-within l n x ∙ passed _ c e f) (failed _ r g d)) ∙ at_left h ∙ whole
+  module _ (c r : Bool) (h : i < n) (e : c ≡ within n x) (f : c ≡ true) (g : r ≡ pair_meets (cells_view l n) x y z) where
+    pub linking_stop : r ≡ false → false ≡ pair_words (chain_in (cells_view l n) p) (chain_in (cells_view l n) a) (chain_in (cells_view l n) b)
+    linking_stop d = sym (linked-stop (cells_view l n) x y z (n - (i + 1)) (cell-within l n x ∙ sym e ∙ f) (sym g ∙ d)) ∙ at_left h ∙ whole
 
-    pub linking_turn : (u v w : ℕ) → not r ≡ false → u ≡ (cell_at l x).next → v ≡ (cell_at l y).next → w ≡ (cell_at l z).next → Linking l n p a b u v w (i + 1)
+    pub linking_turn : (u v w : ℕ) → r ≡ true → u ≡ (cell_at l x).next → v ≡ (cell_at l y).next → w ≡ (cell_at l z).next → Linking l n p a b u v w (i + 1)
     unfolding pair_meets
     linking_turn u v w d eu ev ew =
-        let t = passed _ r g d in
+        let t = sym g ∙ d in
         let q = four-of _ _ _ _ t in
-        let wx = passed _ c e f in
+        let wx = sym e ∙ f in
         let wy = sym (cell-within l n y) ∙ q.one in
         let wz = sym (cell-within l n z) ∙ q.two in
         record {
@@ -163,14 +146,14 @@ module _ (P : ℕ × ℕ → Type 0) (q : ℕ × ℕ → Bool) (l : List ℕ) (n
     unfolding chain_by all
     chaining_done h = let e : n - i ≡ 0 = omega arith in rw e at k.left
 
-    pub chaining_end : (b : Bool) → b ≡ within n x → not b ≡ true → true ≡ all q (chain_in (cells_view l n) p)
+    pub chaining_end : (b : Bool) → b ≡ within n x → b ≡ false → true ≡ all q (chain_in (cells_view l n) p)
     unfolding all
-    chaining_end b e h = rw (none-by (cells_view l n) (n - i) x (cell-within l n x ∙ failed _ b e h)) at k.left
+    chaining_end b e h = rw (none-by (cells_view l n) (n - i) x (cell-within l n x ∙ sym e ∙ h)) at k.left
 
-    module _ (v o : ℕ) (b : Bool) (h : i < n) (e : b ≡ within n x) (f : not b ≡ false) (ev : v ≡ (cell_at l x).value) (eo : o ≡ (cell_at l x).other) where
+    module _ (v o : ℕ) (b : Bool) (h : i < n) (e : b ≡ within n x) (f : b ≡ true) (ev : v ≡ (cell_at l x).value) (eo : o ≡ (cell_at l x).other) where
       here : chain_by (n - i) (cells_view l n) x ≡ (v, o) ∷ chain_by (n - (i + 1)) (cells_view l n) (cell_in (cells_view l n) x).next
       here =
-          let w = passed _ b e f in
+          let w = sym e ∙ f in
           let m : n - i ≡ suc (n - (i + 1)) = omega arith in
           rw (m, value-at l n x v w ev, other_at l n x o w eo) (one-by (cells_view l n) (n - (i + 1)) x (cell-within l n x ∙ w))
 
@@ -180,16 +163,16 @@ module _ (P : ℕ × ℕ → Type 0) (q : ℕ × ℕ → Bool) (l : List ℕ) (n
           go : {m : List (ℕ × ℕ)} → Every P ((v, o) ∷ m) → P (v, o)
           go (and a r) = a
 
-      pub chaining_stop : (r : Bool) → r ≡ q (v, o) → not r ≡ true → false ≡ all q (chain_in (cells_view l n) p)
+      pub chaining_stop : (r : Bool) → r ≡ q (v, o) → r ≡ false → false ≡ all q (chain_in (cells_view l n) p)
       unfolding all
-      chaining_stop r g d = and-stop _ (all q (chain_by (n - (i + 1)) (cells_view l n) (cell_in (cells_view l n) x).next)) (failed _ r g d) ∙ (rw here at k.left)
+      chaining_stop r g d = and-stop _ (all q (chain_by (n - (i + 1)) (cells_view l n) (cell_in (cells_view l n) x).next)) (sym g ∙ d) ∙ (rw here at k.left)
 
-      pub chaining_turn : (r : Bool) (u : ℕ) → r ≡ q (v, o) → not r ≡ false → u ≡ (cell_at l x).next → Chaining P q l n p u (i + 1)
+      pub chaining_turn : (r : Bool) (u : ℕ) → r ≡ q (v, o) → r ≡ true → u ≡ (cell_at l x).next → Chaining P q l n p u (i + 1)
       unfolding all
       chaining_turn r u g d eu =
-          let w = passed _ b e f in
+          let w = sym e ∙ f in
           let t : (true && all q (chain_by (n - (i + 1)) (cells_view l n) (cell_in (cells_view l n) x).next)) ≡ all q (chain_in (cells_view l n) p)
-          = rw (passed (q (v, o)) r g d) at (rw here at k.left) in
+          = rw (sym g ∙ d) at (rw here at k.left) in
           record { counted = omega arith; good = rw (next_at_lem l n x u w eu) (go (rw here at k.good)); left = rw (next_at_lem l n x u w eu) t }
         where
           go : {m : List (ℕ × ℕ)} → Every P ((v, o) ∷ m) → Every P m
@@ -212,74 +195,44 @@ module _ (l e : List ℕ) (c : State) (t u : ℕ) (h : Congruable l e c) (w : wi
   pub parent-here : within c.terms u ≡ true
   parent-here = rw parent_is (h.pathed.tops.stays t w)
 
-  module _ (j : ℕ) (ej : j ≡ (term_at l t).kind) where
-    child-kind : j ≡ kind (chained l e c) t
-    child-kind = kind_at l c.terms t j w ej
+  abbrev pairs_at : Bool
+  pairs_at =
+      let p = chain (chained l e c) (term_at l t).label_value in
+      let a = chain (chained l e c) (term_at l t).first in
+      let b = chain (chained l e c) (term_at l u).first in
+      pair_words p a b || pair_words p b a
 
-    pub congruent_child : (j ≡ 3 → ⊥) → false ≡ congruence_rule (chained l e c) t
-    unfolding congruence_rule
-    congruent_child d = rw (ne_eqb (kind (chained l e c) t) 3 (λ z. d (child-kind ∙ z)))
+  -- the words that the code reads
+  pub congruence-words :
+      (eqb (term_at l t).kind 3 && eqb (term_at l u).kind 3 && pairs_at && all (falls_rule (termed l c) (term_at l t).stamp) (chain (chained l e c) (term_at l t).label_value))
+      ≡ congruence_rule (chained l e c) t
+  unfolding congruence_rule falls_rule pairs_of pair_words
+  congruence-words =
+      let up = term (chained l e c) (term (chained l e c) t).forest_parent in
+      let j = kind_at l c.terms t _ w refl in
+      let p = ap (λ x. x.label_value) (sym (view_term l c.terms t w)) in
+      let m = ap (λ x. x.stamp) (sym (view_term l c.terms t w)) in
+      let a = first-at l c.terms t _ w refl in
+      let k : (term_at l u).kind ≡ up.kind = rw (← parent_is) (kind_at l c.terms u _ parent-here refl) in
+      let b : (term_at l u).first ≡ up.first = rw (← parent_is) (first-at l c.terms u _ parent-here refl) in
+      rw (j, k, p, m, a, b) refl
 
-    module _ (k : ℕ) (ek : k ≡ (term_at l u).kind) where
-      parent-kind : k ≡ kind (chained l e c) (term (chained l e c) t).forest_parent
-      parent-kind = rw (← parent_is) (kind_at l c.terms u k parent-here ek)
-
-      pub congruent_parent : (k ≡ 3 → ⊥) → false ≡ congruence_rule (chained l e c) t
-      unfolding congruence_rule
-      congruent_parent d =
-          let z : eqb (kind (chained l e c) (term (chained l e c) t).forest_parent) 3 ≡ false = ne_eqb _ 3 (λ z. d (parent-kind ∙ z)) in
-          rw (right-false (eqb (kind (chained l e c) t) 3) (eqb (kind (chained l e c) (term (chained l e c) t).forest_parent) 3) z)
-
-      module _ (p a b : ℕ) (r : Bool) (ep : p ≡ (term_at l t).label_value) (ea : a ≡ (term_at l t).first) (eb : b ≡ (term_at l u).first)
-          (er : r ≡ (pair_words (chain (chained l e c) p) (chain (chained l e c) a) (chain (chained l e c) b) || pair_words (chain (chained l e c) p) (chain (chained l e c) b) (chain (chained l e c) a))) where
-        pairs_is : p ≡ (term (chained l e c) t).label_value
-        pairs_is = rw (view_term l c.terms t w) ep
-
-        first_is : a ≡ (term (chained l e c) t).first
-        first_is = first-at l c.terms t a w ea
-
-        second_is : b ≡ (term (chained l e c) (term (chained l e c) t).forest_parent).first
-        second_is = rw (← parent_is) (first-at l c.terms u b parent-here eb)
-
-        pairs_test : r ≡ (pairs_of (chained l e c) (chain (chained l e c) (term (chained l e c) t).label_value) t (term (chained l e c) t).forest_parent
-            || pairs_of (chained l e c) (chain (chained l e c) (term (chained l e c) t).label_value) (term (chained l e c) t).forest_parent t)
-        unfolding pairs_of pair_words
-        pairs_test = rw (← pairs_is, ← first_is, ← second_is) er
-
-        pub congruent_pairs : not r ≡ true → false ≡ congruence_rule (chained l e c) t
-        unfolding congruence_rule
-        congruent_pairs d = sym (left_false _ (all (falls_rule (chained l e c) (term (chained l e c) t).stamp) (chain (chained l e c) (term (chained l e c) t).label_value))
-            (right-false (eqb (kind (chained l e c) t) 3 && eqb (kind (chained l e c) (term (chained l e c) t).forest_parent) 3) _ (failed _ r pairs_test d)))
-
-        module _ (j3 : j ≡ 3) (k3 : k ≡ 3) (d : not r ≡ false) where
-          pub congruent_terms : Every (TermPair c.terms) (chain (chained l e c) p)
-          congruent_terms =
-              let x : Every (λ x. within c.terms x ≡ true) (firsts (chain (chained l e c) a)) = rw first_is (h.parted t (sym child-kind ∙ j3)) in
-              let y : Every (λ x. within c.terms x ≡ true) (firsts (chain (chained l e c) b)) = rw second_is (h.parted (term (chained l e c) t).forest_parent (sym parent-kind ∙ k3)) in
-              ⊎_elim (words-terms c.terms (chain (chained l e c) p) _ _ x y) (words-terms c.terms (chain (chained l e c) p) _ _ y x) (either _ _ (sym er ∙ not-false r d))
-
-          pub congruent_last : (m : ℕ) (f : Bool) → m ≡ (term_at l t).stamp → f ≡ all (falls_rule (termed l c) m) (chain (chained l e c) p) → f ≡ congruence_rule (chained l e c) t
-          unfolding congruence_rule falls_rule
-          congruent_last m f em ef =
-              let s : m ≡ (term (chained l e c) t).stamp = rw (view_term l c.terms t w) em in
-              rw (eq-eqb (kind (chained l e c) t) 3 (sym child-kind ∙ j3), eq-eqb (kind (chained l e c) (term (chained l e c) t).forest_parent) 3 (sym parent-kind ∙ k3), passed _ r pairs_test d, ← s, ← pairs_is) ef
+  pub congruent_terms : (term_at l t).kind ≡ 3 → (term_at l u).kind ≡ 3 → pairs_at ≡ true → Every (TermPair c.terms) (chain (chained l e c) (term_at l t).label_value)
+  congruent_terms j k d =
+      let p = chain (chained l e c) (term_at l t).label_value in
+      let x : Every (λ x. within c.terms x ≡ true) (firsts (chain (chained l e c) (term_at l t).first)) =
+      rw (first-at l c.terms t _ w refl) (h.parted t (sym (kind_at l c.terms t _ w refl) ∙ j)) in
+      let y : Every (λ x. within c.terms x ≡ true) (firsts (chain (chained l e c) (term_at l u).first)) =
+      rw (first-at l c.terms u _ parent-here refl) (h.parted u (sym (kind_at l c.terms u _ parent-here refl) ∙ k)) in
+      ⊎_elim (words-terms c.terms p _ _ x y) (words-terms c.terms p _ _ y x) (either _ _ d)
 
 module _ (l e : List ℕ) (c : State) (t : ℕ) (w : within c.terms t ≡ true) where
-  pub edge-root : (u : ℕ) → u ≡ (term_at l t).forest_parent → u ≡ t → true ≡ edge_rule (chained l e c) t
-  edge-root u eu d = or-stop _ _ (ap not (left_false (not (eqb (term (chained l e c) t).forest_parent t)) _ (ap not (eq-eqb _ _ (sym (view_forest l c.terms t u w eu) ∙ d)))))
-
-  module _ (k : ℕ) (ek : k ≡ (term_at l t).label_kind) where
-    label_is : k ≡ (term (chained l e c) t).label_kind
-    label_is = rw (view_term l c.terms t w) ek
-
-    pub edge_other : (k ≡ 3 → ⊥) → true ≡ edge_rule (chained l e c) t
-    edge_other d = or-stop _ _ (ap not (right-false (not (eqb (term (chained l e c) t).forest_parent t)) _ (ne_eqb _ _ (λ z. d (label_is ∙ z)))))
-
-    pub edge-congruence : (u : ℕ) (r : Bool) → u ≡ (term_at l t).forest_parent → (u ≡ t → ⊥) → k ≡ 3 → r ≡ congruence_rule (chained l e c) t → r ≡ edge_rule (chained l e c) t
-    edge-congruence u r eu d z f =
-        let a : not (eqb (term (chained l e c) t).forest_parent t) ≡ true = ap not (ne_eqb _ _ (λ y. d (view_forest l c.terms t u w eu ∙ y))) in
-        let b : eqb (term (chained l e c) t).label_kind 3 ≡ true = eq-eqb _ _ (sym label_is ∙ z) in
-        or-next _ _ _ (ap not (both_true _ _ a b)) f
+  pub edge-words : (eqb (term_at l t).forest_parent t || not (eqb (term_at l t).label_kind 3) || congruence_rule (chained l e c) t) ≡ edge_rule (chained l e c) t
+  edge-words = rw (view_term l c.terms t w) (go (eqb (term_at l t).forest_parent t) (eqb (term_at l t).label_kind 3) (congruence_rule (chained l e c) t))
+    where
+      go : (a b r : Bool) → (a || not b || r) ≡ (not (not a && b) || r)
+      go true b r = refl
+      go false b r = refl
 
 -- the rule reads terms and cells alone
 pub congruences-both : (m : Lent) (c : State) → congruences_rule (chained m.terms m.cells c) ≡ congruences_rule (store_of m c)

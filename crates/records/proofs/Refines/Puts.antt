@@ -1,20 +1,19 @@
 -- The views after records were written above the count, or a term's record changed.
 use mathlib.Core.Path.{◌≡◌, refl, sym, ap, ◌∙◌}
-use mathlib.Core.Bool.{Bool, true, false}
+use mathlib.Core.Bool.{true}
 use mathlib.Core.List.{List, [], ◌∷◌, ◌++◌, append_assoc, append-nil}
 use Prim.Native.Nat.{ℕ, suc, ◌+◌, ◌-◌, ◌*◌, ◌/◌, ◌≤◌, ◌<◌}
 use native.Mathlib.Decide.{ℕ_discrete}
 use native.Mathlib.Numerals.{add-one}
 use native.Mathlib.Omega.{arith}
 use lib.ListN.{length, get_or, set, take, drop, drop_of_length-le, length-set, get_or-append}
-use lib.Dec.{ltb}
 use lib.Seq.{sets, sets-eq, get_or-append-add, length-take-le, drop-cons, length-sets, get_or-set_same, get_or-set_other, ext_get_or}
-use Rattle.records.specs.View.{buckets, reason_room, term_width, cell_width, term_place, cell_place, term_at, cell_at, pair_at, terms_view, cells_view, pairs_view, zero_term, zero_cell, term_words, cell_words}
+use Rattle.records.specs.View.{buckets, term_width, cell_width, term_place, cell_place, term_at, cell_at, pair_at, terms_view, cells_view, pairs_view, zero_term, zero_cell, term_words, cell_words}
 use Rattle.records.specs.Store.{Term, no_term, within}
 use Rattle.records.specs.Make.{own, chain_from, with_class, with_edge}
 use Rattle.records.specs.Working.Indexing.{Reached, at_head, after_last, Tied}
-use Rattle.records.specs.Working.Puts.{WordsPut, TermPut, IndexLeft, TermSet, CellPut, ChainPut, PairPut, Pushed}
-use Rattle.records.proofs.Lists.{table-suc, table_same, table-length, table_at_lem, within_low, within-high, clash}
+use Rattle.records.specs.Working.Puts.{WordsPut, TermPut, IndexLeft, TermSet, CellPut, ChainPut, PairPut}
+use Rattle.records.proofs.Lists.{table-suc, table_same, table-length, table_at_lem, within_low, within-high}
 use Rattle.records.proofs.Views.{term-same, terms-agree, zero_term-same, zero_term-agrees, pairs-agree, cells_agree, zero_cell-agrees}
 use Rattle.records.proofs.IndexLaws.{tied_linked}
 
@@ -228,13 +227,6 @@ module _ (l : List ℕ) (n a b : ℕ) where
 
       last-is : pair_at l' n ≡ (a, b)
       last-is = rw same (let a0 = sets_at l (2 * n) vs fits 0 (omega arith) in let a1 = sets_at l (2 * n) vs fits 1 (omega arith) in cc)
-
-module _ (l l' : List ℕ) (n k v : ℕ) (r : Bool) (e : r ≡ ltb n (reason_room l)) where
-  pub pushed : r ≡ true → PairPut l l' n k v → Pushed l l' n k v true
-  pushed h p = record { fits = sym h ∙ e; grown = λ y. rw add-one p.grown; kept = p.kept }
-
-  pub not-pushed : r ≡ false → Pushed l l n k v false
-  not-pushed h = record { fits = sym h ∙ e; grown = λ y. clash y refl; kept = refl }
 
 -- ONE CELL, AND A CHAIN OF THEM
 

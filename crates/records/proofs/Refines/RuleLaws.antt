@@ -1,159 +1,42 @@
 -- Each way through the rules of records (src/rules.rt): what the code found makes the rule's test.
 use mathlib.Core.Path.{◌≡◌, refl, sym, ap, ◌∙◌}
-use mathlib.Core.Bool.{Bool, true, false, not, ◌&&◌}
+use mathlib.Core.Bool.{Bool, true, false, ◌&&◌}
 use mathlib.Core.List.{List, ◌∷◌, []}
 use Prim.Native.Nat.{ℕ, zero, suc, ◌+◌, ◌-◌, ◌*◌, ◌<◌, ◌≤◌}
 use native.Mathlib.Omega.{arith}
 use lib.ListN.{length, get_or}
-use lib.Dec.{eqb, ltb, leb}
-use borrow.Author.Tests.{lt-ltb, le-ltb, le-leb, lt-leb, eq-eqb, ne_eqb, eqb-false, leb-true}
+use Rattle.std.proofs.lemmas.Bool.Decides.{nat_tests}
+use lib.Dec.{leb}
+use borrow.Author.Tests.{le-leb, leb-true}
 use Rattle.records.specs.Lists.{all}
-use Rattle.records.specs.Store.{Store, term_in, within, term, cell, chain, chain_by, is_string}
-use Rattle.records.specs.View.{Lent, lent, store_of, cell_at, pair_at, terms_view, term_words, cell_words, sizes, term_limit, cell_limit, char_limit, reason_limit, key_limit, term_at}
+use Rattle.records.specs.Store.{Store, term_in, within, term, cell, chain, chain_by}
+use Rattle.records.specs.View.{Lent, lent, store_of, cell_at, pair_at, terms_view, term_words, cell_words, sizes, term_limit, cell_limit, char_limit, reason_limit, key_limit}
 use Rattle.records.specs.declared.State.{State}
-use Rattle.records.specs.Working.Leaves.{pair_rule}
 use Rattle.records.specs.Working.Audited.{Sized}
-use Rattle.records.specs.Rules.{is_number, reason_rule, key_rule, cell_rule, text_rule, part_rule, concat_rule, length_rule, is_equatable, equation_rule}
-use Rattle.records.proofs.Lists.{within-zero, within-high, and-stop, and-next, or-stop, failed, passed, right-false, right-true, or_none_lem, three_1, three_2, three_3, three-first, three-last, five_1, five_2, five_3, five_4, five-last, decide, table-length, both_left, both_right, both_true}
-use Rattle.records.proofs.Views.{term_is, term-none, term-past, next_at_lem}
+use Rattle.records.specs.Rules.{text_rule, part_rule}
+use Rattle.records.proofs.Lists.{right-false, right-true, table-length, both_left, both_right, both_true}
+use Rattle.records.proofs.Views.{term-none, term-past, next_at_lem}
 
-pub kind-none : (l : List ℕ) (n t : ℕ) → t ≡ 0 → 0 ≡ (term_in (terms_view l n) t).kind
-kind-none l n t e = rw (e, term-none l n)
-
-pub kind-past : (l : List ℕ) (n t w : ℕ) → w ≡ t → n < w → 0 ≡ (term_in (terms_view l n) t).kind
-kind-past l n t w e h = rw (term-past l n t (omega arith))
-
-pub kind_is : (l : List ℕ) (n t w k : ℕ) → (t ≡ 0 → ⊥) → w ≡ t → w ≤ n → k ≡ (term_at l t).kind → k ≡ (term_in (terms_view l n) t).kind
-kind_is l n t w k z e h q = let p : 0 < t = omega arith in rw (term_is l n t p (omega arith)) q
-
-pub string-none : (k j : ℕ) → k ≡ j → k ≡ 0 → false ≡ within 3 j
-string-none k j e z = sym (within-zero 3 j (sym e ∙ z))
-
-pub string-is : (k j : ℕ) → k ≡ j → (k ≡ 0 → ⊥) → leb k 3 ≡ within 3 j
+past : (n t : ℕ) → within n t ≡ false → 0 < t → n < t
 unfolding within
-string-is k j e z = rw (sym e, lt-ltb 0 k (omega arith))
+past n t h z = grind (arith, nat_tests)
 
-pub within_none : (n t : ℕ) → t ≡ 0 → false ≡ within n t
-within_none n t e = sym (within-zero n t e)
-
-pub within_test : (n t w : ℕ) → (t ≡ 0 → ⊥) → w ≡ t → leb w n ≡ within n t
-unfolding within
-within_test n t w z e = rw (e, lt-ltb 0 t (omega arith))
-
--- a count above its limit, and one within it
-pub limit-past : (n k : ℕ) (b : Bool) → k < n → false ≡ (leb n k && b)
-limit-past n k b h = and-stop (leb n k) b (lt-leb n k h)
-
-pub limit_is : (n k : ℕ) (b : Bool) → n ≤ k → b ≡ (leb n k && b)
-limit_is n k b h = and-next (leb n k) b b (le-leb n k h) refl
+pub kind-none : (l : List ℕ) (n t : ℕ) → within n t ≡ false → 0 ≡ (term_in (terms_view l n) t).kind
+kind-none l n zero h = rw (term-none l n) refl
+kind-none l n (suc t) h = rw (term-past l n (suc t) (past n (suc t) h (omega arith))) refl
 
 -- REASONS, KEYS, CELLS
 
-pub reason_is : (k v : ℕ) (r : Bool) → 1 ≤ k → k < 3 → r ≡ is_number v → r ≡ reason_rule (k, v)
-unfolding reason_rule
-reason_is k v r l h e = decide (eqb k 1) (λ q. rw q e) (λ q. let z = eqb-false k 1 q in rw (q, eq-eqb k 2 (omega arith)) e)
-
-pub reason_low : (k v : ℕ) → k < 1 → false ≡ reason_rule (k, v)
-unfolding reason_rule
-reason_low k v h = rw (ne_eqb k 1 (λ e. omega arith), ne_eqb k 2 (λ e. omega arith))
-
-pub reason_high : (k v : ℕ) → 2 < k → false ≡ reason_rule (k, v)
-unfolding reason_rule
-reason_high k v h = rw (ne_eqb k 1 (λ e. omega arith), ne_eqb k 2 (λ e. omega arith))
-
--- as a key, and as a reason
-module _ (s : Store) (p : ℕ × ℕ) (key r : Bool) where
-  pub pair_key : key ≡ true → r ≡ key_rule s p → r ≡ pair_rule key s p
-  pair_key h e = rw h e
-
-  pub pair_reason : key ≡ false → r ≡ reason_rule p → r ≡ pair_rule key s p
-  pair_reason h e = rw h e
-
 -- a rule of the pair at a place
-pub pair_test : (p : ℕ × ℕ → Bool) (l : List ℕ) (i x y : ℕ) (b : Bool) → b ≡ p (x, y) → x ≡ get_or l (2 * i + 0) 0 → y ≡ get_or l (2 * i + 1) 0 → b ≡ p (pair_at l i)
-pair_test p l i x y b e f g = e ∙ ap (λ z. p (z, y)) f ∙ ap (λ z. p (get_or l (2 * i + 0) 0, z)) g
+pub pair_test : (p : ℕ × ℕ → Bool) (l : List ℕ) (i x y : ℕ) (b : Bool) → b ≡ p (x, y) → x ≡ get_or l (2 * i) 0 → y ≡ get_or l (2 * i + 1) 0 → b ≡ p (pair_at l i)
+pair_test p l i x y b e f g = rw (native.Mathlib.Nat.add-zero (2 * i)) (e ∙ ap (λ z. p (z, y)) f ∙ ap (λ z. p (get_or l (2 * i) 0, z)) g)
 
 module _ (s : Store) where
-  pub key_order : (a b : ℕ) → b ≤ a → false ≡ key_rule s (a, b)
-  unfolding key_rule
-  key_order a b h = three_1 (ltb a b) _ _ (le-ltb a b h)
-
-  pub key_first : (a b : ℕ) (x : Bool) → x ≡ is_string s a → not x ≡ true → false ≡ key_rule s (a, b)
-  unfolding key_rule
-  key_first a b x e h = three_2 (ltb a b) _ _ (failed _ x e h)
-
-  pub key_is : (a b : ℕ) (x r : Bool) → a < b → x ≡ is_string s a → not x ≡ false → r ≡ is_string s b → r ≡ key_rule s (a, b)
-  unfolding key_rule
-  key_is a b x r l e h q = three-last (ltb a b) _ _ r (lt-ltb a b l) (passed _ x e h) q
-
-  pub cell-ends : (c x : ℕ) → x ≡ (cell s c).next → x ≡ 0 → true ≡ cell_rule s c
-  unfolding cell_rule
-  cell-ends c x e z = or-stop (eqb (cell s c).next 0) _ (eq-eqb _ 0 (sym e ∙ z))
-
-  pub cell-back : (c x : ℕ) → x ≡ (cell s c).next → (x ≡ 0 → ⊥) → x ≤ c → false ≡ cell_rule s c
-  unfolding cell_rule
-  cell-back c x e z h = rw (← e, ne_eqb x 0 z, le-ltb c x h)
-
-  pub cell_test : (c x w n : ℕ) → x ≡ (cell s c).next → (x ≡ 0 → ⊥) → c < x → w ≡ x → length s.cells ≡ n → leb w n ≡ cell_rule s c
-  unfolding cell_rule
-  cell_test c x w n e z h q m = rw (q, sym m, ← e, ne_eqb x 0 z, lt-ltb c x h)
-
   -- TERMS
 
   pub text_test : (t p n v w m : ℕ) → p ≡ (term s t).first → n ≡ (term s t).second → v ≡ p → w ≡ n → length s.chars ≡ m → leb (v + w) m ≡ text_rule s t
   unfolding text_rule
   text_test t p n v w m a b d e h = rw (d, e, a, b, sym h)
-
-  pub part-other : (t u o x : ℕ) → (x ≡ 0 → ⊥) → x ≡ o → false ≡ part_rule s t (u, o)
-  unfolding part_rule
-  part-other t u o x z e = three_3 (is_string s u) (ltb u t) _ (ne_eqb o 0 (λ q. z (e ∙ q)))
-
-  pub part_upper : (t u o x : ℕ) → x ≡ u → t ≤ x → false ≡ part_rule s t (u, o)
-  unfolding part_rule
-  part_upper t u o x e h = three_2 (is_string s u) (ltb u t) _ (le-ltb u t (omega arith))
-
-  pub part-is : (t u o x y : ℕ) (r : Bool) → x ≡ o → x ≡ 0 → y ≡ u → y < t → r ≡ is_string s y → r ≡ part_rule s t (u, o)
-  unfolding part_rule
-  part-is t u o x y r e z q h g = three-first (is_string s u) _ _ r (rw q at g) (lt-ltb u t (omega arith)) (eq-eqb o 0 (sym e ∙ z))
-
-  pub length_second_lem : (t x : ℕ) → (x ≡ 0 → ⊥) → x ≡ (term s t).second → false ≡ length_rule s t
-  unfolding length_rule
-  length_second_lem t x z e = three_3 (is_string s (term s t).first) (ltb (term s t).first t) _ (ne_eqb _ 0 (λ q. z (e ∙ q)))
-
-  pub length_upper : (t x : ℕ) → x ≡ (term s t).first → t ≤ x → false ≡ length_rule s t
-  unfolding length_rule
-  length_upper t x e h = three_2 (is_string s (term s t).first) (ltb (term s t).first t) _ (le-ltb _ t (omega arith))
-
-  pub length_is_lem : (t x y : ℕ) (r : Bool) → x ≡ (term s t).second → x ≡ 0 → y ≡ (term s t).first → y < t → r ≡ is_string s y → r ≡ length_rule s t
-  unfolding length_rule
-  length_is_lem t x y r e z q h g = three-first (is_string s (term s t).first) _ _ r (rw q at g) (lt-ltb _ t (omega arith)) (eq-eqb _ 0 (sym e ∙ z))
-
-  -- a string term is no length
-  pub equatable_strings : (a b : ℕ) (x r : Bool) → x ≡ is_string s a → x ≡ true → r ≡ is_string s b → r ≡ is_equatable s a b
-  unfolding is_equatable
-  equatable_strings a b x r e h q =
-      let w = within-high 3 (term s a).kind (sym e ∙ h) in
-      rw (sym e ∙ h, ne_eqb (term s a).kind 4 (λ z. omega arith)) (q ∙ sym (or_none_lem (is_string s b)))
-
-  pub equatable_none : (a b k : ℕ) (x : Bool) → x ≡ is_string s a → x ≡ false → k ≡ (term s a).kind → (k ≡ 4 → ⊥) → false ≡ is_equatable s a b
-  unfolding is_equatable
-  equatable_none a b k x e h q z = rw (sym e ∙ h, ← q, ne_eqb k 4 z)
-
-  pub equatable_lengths : (a b k j : ℕ) (x : Bool) → x ≡ is_string s a → x ≡ false → k ≡ (term s a).kind → k ≡ 4 → j ≡ (term s b).kind → eqb j 4 ≡ is_equatable s a b
-  unfolding is_equatable
-  equatable_lengths a b k j x e h q z g = rw (sym e ∙ h, ← q, z, g)
-
-  pub equation_first_lem : (t x : ℕ) → x ≡ (term s t).first → t ≤ x → false ≡ equation_rule s t
-  unfolding equation_rule
-  equation_first_lem t x e h = three_2 (is_equatable s (term s t).first (term s t).second) (ltb (term s t).first t) _ (le-ltb _ t (omega arith))
-
-  pub equation_second_lem : (t x : ℕ) → x ≡ (term s t).second → t ≤ x → false ≡ equation_rule s t
-  unfolding equation_rule
-  equation_second_lem t x e h = three_3 (is_equatable s (term s t).first (term s t).second) (ltb (term s t).first t) _ (le-ltb _ t (omega arith))
-
-  pub equation-is : (t x y : ℕ) (r : Bool) → x ≡ (term s t).first → y ≡ (term s t).second → x < t → y < t → r ≡ is_equatable s x y → r ≡ equation_rule s t
-  unfolding equation_rule
-  equation-is t x y r e q h g p = three-first (is_equatable s (term s t).first (term s t).second) _ _ r (rw (e, q) at p) (lt-ltb _ t (omega arith)) (lt-ltb _ t (omega arith))
 
 -- SIZES
 
@@ -172,26 +55,6 @@ module _ (m : Lent) (c : State) where
 
   abbrev keys_fit : Bool
   keys_fit = leb c.keys key_limit && leb (2 * c.keys) (length m.keys)
-
-  pub sizes-terms : (x : Bool) → x ≡ terms_fit → not x ≡ true → false ≡ sizes m c
-  unfolding sizes
-  sizes-terms x e h = five_1 terms_fit cells_fit chars_fit reasons_fit keys_fit (failed _ x e h)
-
-  pub sizes-cells : (x : Bool) → x ≡ cells_fit → not x ≡ true → false ≡ sizes m c
-  unfolding sizes
-  sizes-cells x e h = five_2 terms_fit cells_fit chars_fit reasons_fit keys_fit (failed _ x e h)
-
-  pub sizes-chars : (x : Bool) → x ≡ chars_fit → not x ≡ true → false ≡ sizes m c
-  unfolding sizes
-  sizes-chars x e h = five_3 terms_fit cells_fit chars_fit reasons_fit keys_fit (failed _ x e h)
-
-  pub sizes-reasons : (x : Bool) → x ≡ reasons_fit → not x ≡ true → false ≡ sizes m c
-  unfolding sizes
-  sizes-reasons x e h = five_4 terms_fit cells_fit chars_fit reasons_fit keys_fit (failed _ x e h)
-
-  pub sizes-is : (x y z w r : Bool) → x ≡ terms_fit → not x ≡ false → y ≡ cells_fit → not y ≡ false → z ≡ chars_fit → not z ≡ false → w ≡ reasons_fit → not w ≡ false → r ≡ keys_fit → r ≡ sizes m c
-  unfolding sizes
-  sizes-is x y z w r a a' b b' d d' e e' h = five-last terms_fit cells_fit chars_fit reasons_fit keys_fit r (passed _ x a a') (passed _ y b b') (passed _ z d d') (passed _ w e e') h
 
   -- the test is the facts of refusal 1
   pub sized_of : sizes m c ≡ true → Sized m c
@@ -268,14 +131,6 @@ module _ (s : Store) (t : ℕ) where
       let m : i + suc (length (chain_by k s.cells (cell s c).next)) ≡ (i + 1) + length (chain_by k s.cells (cell s c).next) = omega arith in
       rw (chain_more k c w, h, m)
 
-  pub concat_second_lem : (x : ℕ) → (x ≡ 0 → ⊥) → x ≡ (term s t).second → false ≡ concat_rule s t
-  unfolding concat_rule
-  concat_second_lem x z e = three_3 (leb 2 (length (chain s (term s t).first))) (all (part_rule s t) (chain s (term s t).first)) _ (ne_eqb _ 0 (λ q. z (e ∙ q)))
-
-  pub concat-is : (x f : ℕ) (r : Bool) → x ≡ (term s t).second → x ≡ 0 → f ≡ (term s t).first → r ≡ whole f → r ≡ concat_rule s t
-  unfolding concat_rule
-  concat-is x f r e z q g = (rw q at g) ∙ sym (right-true (whole (term s t).first) _ (eq-eqb _ 0 (sym e ∙ z)))
-
 -- the walk along the chain from f, of the words l of terms and e of cells
 module _ (l e : List ℕ) (st : State) (t f : ℕ) where
   abbrev walked : Store
@@ -299,25 +154,25 @@ module _ (l e : List ℕ) (st : State) (t f : ℕ) where
     walk_over h = let z : st.cells - i ≡ 0 = omega arith in sym (rest_over walked t i c) ∙ (rw z at a.left)
 
     module _ (x : Bool) (ex : x ≡ within st.cells c) where
-      pub walk_end : not x ≡ true → leb 2 i ≡ whole walked t f
+      pub walk_end : x ≡ false → leb 2 i ≡ whole walked t f
       walk_end h =
-          let z : within (length walked.cells) c ≡ false = rw cells-counted (failed _ x ex h) in
+          let z : within (length walked.cells) c ≡ false = rw cells-counted (sym ex ∙ h) in
           sym (rest-none walked t (st.cells - i) i c (chain-none walked t (st.cells - i) c z)) ∙ a.left
 
-      module _ (h : not x ≡ false) (j : i < st.cells) (y : Bool) (ey : y ≡ part_rule walked t ((cell walked c).value, (cell walked c).other)) where
+      module _ (h : x ≡ true) (j : i < st.cells) (y : Bool) (ey : y ≡ part_rule walked t ((cell walked c).value, (cell walked c).other)) where
         here : within (length walked.cells) c ≡ true
-        here = rw cells-counted (passed _ x ex h)
+        here = rw cells-counted (sym ex ∙ h)
 
         more : st.cells - i ≡ suc (st.cells - (i + 1))
         more = omega arith
 
-        pub walk_stop : not y ≡ true → false ≡ whole walked t f
-        walk_stop z = sym (rest-stop walked t (st.cells - (i + 1)) i c here (failed _ y ey z)) ∙ (rw more at a.left)
+        pub walk_stop : y ≡ false → false ≡ whole walked t f
+        walk_stop z = sym (rest-stop walked t (st.cells - (i + 1)) i c here (sym ey ∙ z)) ∙ (rw more at a.left)
 
-        pub walk_turn : not y ≡ false → (d : ℕ) → d ≡ (cell_at e c).next → Walked d (i + 1)
+        pub walk_turn : y ≡ true → (d : ℕ) → d ≡ (cell_at e c).next → Walked d (i + 1)
         walk_turn z d q =
-            let n = next_at_lem e st.cells c d (passed _ x ex h) q in
+            let n = next_at_lem e st.cells c d (sym ex ∙ h) q in
             record {
               inside = omega arith;
-              left = rw n (sym (rest-turn walked t (st.cells - (i + 1)) i c here (passed _ y ey z)) ∙ (rw more at a.left));
+              left = rw n (sym (rest-turn walked t (st.cells - (i + 1)) i c here (sym ey ∙ z)) ∙ (rw more at a.left));
             }

@@ -1,15 +1,15 @@
 -- The rule of a term by its kind, and of every record (src/rules.rt).
 use mathlib.Core.Path.{◌≡◌, refl, sym, ◌∙◌}
-use mathlib.Core.Bool.{Bool, true, false, not, ◌&&◌}
+use mathlib.Core.Bool.{Bool, false, ◌&&◌}
 use mathlib.Core.List.{List, []}
 use Prim.Native.Nat.{ℕ}
 use borrow.Author.Tests.{ne_eqb}
 use Rattle.records.specs.declared.State.{State}
 use Rattle.records.specs.Lists.{all}
 use Rattle.records.specs.Store.{Store, term}
-use Rattle.records.specs.View.{lent, store_of, chars_view, pairs_view}
-use Rattle.records.specs.Rules.{text_rule, named, name_rule, part_rule, concat_rule, length_rule, is_equatable, equation_rule, term_rule, cell_rule, is_char, reason_rule, key_rule, records_rule, each_term, each_cell}
-use Rattle.records.proofs.Lists.{failed, passed, or_none_lem, five_1, five_2, five_3, five_4, five-last}
+use Rattle.records.specs.View.{lent, store_of, pairs_view}
+use Rattle.records.specs.Rules.{text_rule, named, name_rule, part_rule, concat_rule, length_rule, is_equatable, equation_rule, term_rule, cell_rule, key_rule, each_term, each_cell}
+use Rattle.records.proofs.Lists.{or_none_lem}
 
 module _ (s : Store) (t k : ℕ) (r : Bool) (e : k ≡ (term s t).kind) where
   pub term-constant : k ≡ 1 → r ≡ text_rule s t → r ≡ term_rule s t
@@ -73,12 +73,6 @@ module _ (l e h r k : List ℕ) (c : State) where
   abbrev cells_pass : Bool
   cells_pass = each_cell whole (cell_rule whole)
 
-  abbrev chars_pass : Bool
-  chars_pass = all is_char (chars_view h c.chars)
-
-  abbrev reasons_pass : Bool
-  reasons_pass = all reason_rule (pairs_view r c.reasons)
-
   abbrev keys_pass : Bool
   keys_pass = all (key_rule whole) (pairs_view k c.keys)
 
@@ -93,25 +87,3 @@ module _ (l e h r k : List ℕ) (c : State) where
   pub keys_of : all (key_rule (store_of (lent l [] [] [] []) c)) (pairs_view k c.keys) ≡ keys_pass
   unfolding key_rule
   keys_of = refl
-
-  module _ (x : Bool) (f : x ≡ each_term (store_of (lent l e h [] []) c) (term_rule (store_of (lent l e h [] []) c))) where
-    pub records_terms : not x ≡ true → false ≡ records_rule whole
-    unfolding records_rule
-    records_terms z = five_1 terms_pass cells_pass chars_pass reasons_pass keys_pass (failed _ x (f ∙ terms-of) z)
-
-    module _ (y : Bool) (g : y ≡ each_cell (store_of (lent [] e [] [] []) c) (cell_rule (store_of (lent [] e [] [] []) c))) where
-      pub records_cells : not y ≡ true → false ≡ records_rule whole
-      unfolding records_rule
-      records_cells z = five_2 terms_pass cells_pass chars_pass reasons_pass keys_pass (failed _ y (g ∙ cells_of) z)
-
-      pub records_is : (v w b : Bool) → not x ≡ false → not y ≡ false → v ≡ chars_pass → not v ≡ false → w ≡ reasons_pass → not w ≡ false → b ≡ all (key_rule (store_of (lent l [] [] [] []) c)) (pairs_view k c.keys) → b ≡ records_rule whole
-      unfolding records_rule
-      records_is v w b p q i j m n o = five-last terms_pass cells_pass chars_pass reasons_pass keys_pass b (passed _ x (f ∙ terms-of) p) (passed _ y (g ∙ cells_of) q) (passed _ v i j) (passed _ w m n) (o ∙ keys_of)
-
-  pub records_chars : (v : Bool) → v ≡ chars_pass → not v ≡ true → false ≡ records_rule whole
-  unfolding records_rule
-  records_chars v i j = five_3 terms_pass cells_pass chars_pass reasons_pass keys_pass (failed _ v i j)
-
-  pub records_reasons : (w : Bool) → w ≡ reasons_pass → not w ≡ true → false ≡ records_rule whole
-  unfolding records_rule
-  records_reasons w i j = five_4 terms_pass cells_pass chars_pass reasons_pass keys_pass (failed _ w i j)

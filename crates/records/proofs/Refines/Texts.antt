@@ -3,18 +3,22 @@ use mathlib.Core.Path.{◌≡◌, refl, sym, ap, ◌∙◌}
 use mathlib.Core.Bool.{Bool, true, false}
 use mathlib.Core.List.{List, ◌++◌, append_cancel_left}
 use mathlib.Core.Logic.{⊎_elim}
-use Prim.Native.Nat.{ℕ, ◌+◌, ◌<◌, ◌≤◌}
+use Prim.Native.Nat.{ℕ, ◌+◌, ◌-◌, ◌<◌, ◌≤◌}
 use native.Mathlib.Numerals.{add-one}
 use native.Mathlib.Nat.{le_antisymm, eq-or-lt_of_le}
 use native.Mathlib.Omega.{arith}
-use lib.ListN.{length, get_or, set, length-set}
-use lib.Seq.{ext_get_or, get_or-set_same, get_or-set_other}
+use lib.ListN.{length, take, drop, get_or, set, length-set, length-append, length-take, get_or-append}
+use borrow.Rule.Slice.PartMut.{put_mid, post_of}
+use Rattle.std.proofs.lemmas.Slice.{take-put_mid, take-put_mid_below}
+use lib.Seq.{ext_get_or, get_or-take, get_or-set_same, get_or-set_other, length-take-le, take-append_seam, drop-append_seam}
 use lib.Dec.{eqb}
-use borrow.Author.Tests.{eqb-true, eqb-false, eq-eqb, ne_eqb}
+use lib.Pointwise.{pointwise}
+use borrow.Author.Tests.{eqb-true, eq-eqb, ne_eqb}
 use Rattle.records.specs.Lists.{same_word, all_below}
 use Rattle.records.specs.View.{span, chars_view}
 use Rattle.records.specs.Working.Puts.{CharsPut}
-use Rattle.records.proofs.Lists.{decide, table_at_lem, table_same, table_add, table-length, same_test, word_is, word_same, below-zero, below_suc, below_at, below_all, below_false}
+use Rattle.records.proofs.Lists.{table_at_lem, table_same, table_add, table-length, same_test, word_is, word_same, below-zero, below_suc, below_at, below_all, below_false, pointwise-words}
+use Rattle.records.proofs.Views.{part-span}
 
 -- the test of one place
 abbrev pub agree_at : List ℕ → List ℕ → ℕ → Bool
@@ -26,6 +30,10 @@ word_below v w e =
     same_test _ _
     (λ h. let q = word_is v w h in below_all (agree_at v w) (length w) (λ k l. eq-eqb (get_or v k 0) (get_or w k 0) (ap (λ (x : List ℕ). get_or x k 0) q)))
     (λ h. word_same v w (ext_get_or 0 v w e (λ k l. eqb-true (get_or v k 0) (get_or w k 0) (below_at (agree_at v w) (length w) h k (omega arith)))))
+
+-- a part of a slice compared by the library
+pub part-equal : (l w : List ℕ) (p : ℕ) (r : Bool) → p + length w ≤ length l → r ≡ pointwise eqb (take (p + length w - p) (drop p l)) w → r ≡ same_word (span l p (length w)) w
+part-equal l w p r h e = let q : p + length w - p ≡ length w = omega arith in rw (q, part-span l p (length w) h, pointwise-words) at e
 
 -- THE LOOP that compares a span with a word
 
@@ -58,23 +66,39 @@ module _ (l w : List ℕ) (p : ℕ) where
       sym (word_below (span l p (length w)) w span-length
       ∙ below_false (agree_at (span l p (length w)) w) (length w) i h (ne_eqb _ _ (λ e. d (sym (span-at i h) ∙ e))))
 
-  -- two characters, and the last one
-  module _ (i : ℕ) (a : Agreed i) where
-    pub disagree_next : i + 1 < length w → get_or l (p + i) 0 ≡ get_or w i 0 → (get_or l (p + i + 1) 0 ≡ get_or w (i + 1) 0 → ⊥) → false ≡ same_word (span l p (length w)) w
-    disagree_next h e d = disagree (i + 1) (agreed_one i a (omega arith) e) h (λ f. let q : p + i + 1 ≡ p + (i + 1) = omega arith in d (rw q f))
-
-    pub agreed_two : i + 1 < length w → get_or l (p + i) 0 ≡ get_or w i 0 → get_or l (p + i + 1) 0 ≡ get_or w (i + 1) 0 → Agreed (i + 2)
-    agreed_two h e f =
-        let q : p + i + 1 ≡ p + (i + 1) = omega arith in
-        let r : i + 2 ≡ (i + 1) + 1 = omega arith in
-        rw r (agreed_one (i + 1) (agreed_one i a (omega arith) e) h (rw q at f))
-
-    pub agreed_last : length w ≤ i + 1 → i < length w → eqb (get_or l (p + i) 0) (get_or w i 0) ≡ same_word (span l p (length w)) w
-    agreed_last h k = decide (eqb (get_or l (p + i) 0) (get_or w i 0))
-        (λ e. e ∙ agreed_all (i + 1) (agreed_one i a k (eqb-true _ _ e)) h)
-        (λ e. e ∙ disagree i a k (eqb-false _ _ e))
-
 -- COPYING
+
+pub view-take : (l : List ℕ) (n : ℕ) → n ≤ length l → chars_view l n ≡ take n l
+view-take l n h =
+    let m = table-length (λ i. get_or l i 0) n in
+    ext_get_or 0 _ _ (simp (length-take, table-length) (omega arith)) (λ i q.
+    let r : i < n = omega arith in
+    table_at_lem (λ j. get_or l j 0) n i 0 r ∙ sym (get_or-take n l i 0 r))
+
+-- a word copied over a part of a slice, which the library writes so
+pub part-put : (l w : List ℕ) (n j : ℕ) → n + length w ≤ length l → CharsPut l (put_mid n j l w) n w
+part-put l w n j h =
+    let m = length-take-le n l (omega arith) in
+    let a = length-append (take n l) (w ++ post_of n j l) in
+    let b = length-append w (post_of n j l) in
+    let k = view-take l n (omega arith) in
+    record {
+      grown = view-take (put_mid n j l w) (n + length w) (omega arith) ∙ take-put_mid n j l w (n + length w) refl (omega arith) ∙ ap (λ (x : List ℕ). x ++ w) (sym k);
+      kept = view-take (put_mid n j l w) n (omega arith) ∙ take-put_mid_below n j l w n (omega arith) (omega arith) ∙ sym k;
+    }
+
+-- a part of a slice copied above it, where the slice was cut in two
+pub part-moved : (l b a w : List ℕ) (from n : ℕ) → l ≡ b ++ a → from + n ≤ length b → n ≤ length a → w ≡ take (from + n - from) (drop from b)
+    → CharsPut l (b ++ (w ++ drop n a)) (length b) (span l from n)
+part-moved l b a w from n c h k e =
+    let q : from + n - from ≡ n = omega arith in
+    let p : w ≡ span b from n = (rw q at e) ∙ part-span b from n h in
+    let s : span b from n ≡ span (b ++ a) from n = table_same (λ i. get_or b (from + i) 0) (λ i. get_or (b ++ a) (from + i) 0) n (λ i j. sym (get_or-append b a 0 (from + i) (omega arith))) in
+    let m : length w ≡ n = ap length p ∙ table-length (λ i. get_or b (from + i) 0) n in
+    let f : take (length b) (b ++ a) ≡ b = take-append_seam b a in
+    let g : post_of (length b) n (b ++ a) ≡ drop n a = ap (drop n) (drop-append_seam b a) in
+    let t = part-put (b ++ a) w (length b) n (simp length-append (omega arith)) in
+    rw (c, ← s, ← p) (rw (f, g) at t)
 
 -- the first i characters of w stand from place n on, and what was below n is there still
 pub record Copied (l l' : List ℕ) (n : ℕ) (w : List ℕ) (i : ℕ) : Type 0 where
@@ -82,9 +106,6 @@ pub record Copied (l l' : List ℕ) (n : ℕ) (w : List ℕ) (i : ℕ) : Type 0 
   pub long : length l' ≡ length l
   pub lower : (j : ℕ) → j < n → get_or l' j 0 ≡ get_or l j 0
   pub copied : (k : ℕ) → k < i → get_or l' (n + k) 0 ≡ get_or w k 0
-
-pub copied_none : (l : List ℕ) (n : ℕ) (w : List ℕ) → Copied l l n w 0
-copied_none l n w = record { within = omega arith; long = refl; lower = λ j h. refl; copied = λ k h. absurd (omega arith) }
 
 pub copied-one : (l l' : List ℕ) (n : ℕ) (w : List ℕ) (i v : ℕ) → Copied l l' n w i → i < length w → n + length w ≤ length l → v ≡ get_or w i 0
     → Copied l (set l' (n + i) v) n w (i + 1)

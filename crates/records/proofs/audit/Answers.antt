@@ -35,11 +35,11 @@ returns-then-not-congruences_ok_unchecked c =
 pub index_ok-requires : goal.index_ok-requires
 index_ok-requires c =
     record {
-      fact_1 = let z = audit-sized _ _ _ c.sizes.ensures c.if-not-sizes.false-raw in
+      limited = let z = audit-sized _ _ _ c.sizes.ensures c.if-not-sizes.false-raw in
           z.term_limited;
-      fact_2 = let z = audit-sized _ _ _ c.sizes.ensures c.if-not-sizes.false-raw in
+      chars = let z = audit-sized _ _ _ c.sizes.ensures c.if-not-sizes.false-raw in
           z.char_room;
-      fact_3 = let z = audit-sized _ _ _ c.sizes.ensures c.if-not-sizes.false-raw in audit_bucketed _ _ _ c.sizes.ensures c.if-not-sizes.false-raw _ c.records_ok.ensures c.if-not-records_ok.false-raw _ c.classes_ok_unchecked.ensures
+      bucketed = let z = audit-sized _ _ _ c.sizes.ensures c.if-not-sizes.false-raw in audit_bucketed _ _ _ c.sizes.ensures c.if-not-sizes.false-raw _ c.records_ok.ensures c.if-not-records_ok.false-raw _ c.classes_ok_unchecked.ensures
           c.if-not-classes_ok_unchecked.false-raw _ c.congruences_ok_unchecked.ensures;
     }
 

@@ -76,6 +76,11 @@ pub record Recorded (s : Store) : Type 0 where
 pub record Closed (up : ℕ → ℕ) (n : ℕ) : Type 0 where
   pub stays : (t : ℕ) → within n t ≡ true → within n (up t) ≡ true
 
+-- each answer of a step from x, one of the numbers from 1 to n, is up x, one of them again
+pub record Steps (answers : ℕ → ℕ → Type 0) (up : ℕ → ℕ) (n : ℕ) : Type 0 where
+  pub closed : Closed up n
+  pub is : (x y : ℕ) → within n x ≡ true → answers x y → y ≡ up x
+
 -- r is the root of t's class and q the root of its tree, in a store of n terms whose parents are terms
 pub record Rooted (s : Store) (n t r q : ℕ) : Type 0 where
   pub here : within n t ≡ true

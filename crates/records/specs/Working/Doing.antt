@@ -1,10 +1,10 @@
 -- What every working function promises: one shape for all of them, and a smaller one for the parts of a make.
-use Rattle.std.specs.Prelude.{◌≡◌, Bool, true, false, List, ℕ, ◌≤◌, take, eqb, if◌then◌else◌}
+use Rattle.std.specs.Prelude.{◌≡◌, true, false, List, ℕ, ◌≤◌, take, Result, Ok, Err, is_err, IfOk}
 use denote.Triple.Both.{Both}
 use Rattle.records.specs.declared.State.{State}
 use Rattle.records.specs.declared.Named.{Named}
-use Rattle.records.specs.declared.Made.{Made}
-use Rattle.records.specs.declared.Made.TheVariants.{Term, Refused}
+use Rattle.records.specs.declared.refusal.Refusal.{Refusal}
+use Rattle.records.specs.Refusal.{number}
 use Rattle.records.specs.Store.{Out, ok, stop, Work}
 use Rattle.records.specs.View.{Lent, store_of}
 use Rattle.records.specs.Make.{take_name}
@@ -45,23 +45,18 @@ module _ {A : Type 0} where
   Builds work x c f = Building work x.entry x.exit c (f x.exit)
 
 -- the answer of taking a name
-abbrev pub taken : Named → Lent → Out (List ℕ)
-taken r m = if eqb r.code 0 then ok (store_of m r.state) (take r.len r.name) else stop r.code
+abbrev pub taken : Result Named Refusal → Lent → Out (List ℕ)
+taken (Ok r) m = ok (store_of m r.state) (take r.len r.name)
+taken (Err e) m = stop (number e)
 
--- no word is written, so the slices are ready for the counter past the name; after refusal 9 the counts and the counter are those of entry
-pub record Taken (m : Lent) (c : State) (r : Named) : Type 0 where
+-- no word is written, so the slices are ready for the counter past the name
+pub record Taken (m : Lent) (c : State) (r : Result Named Refusal) : Type 0 where
   pub says : take_name (store_of m c) ≡ taken r m
-  pub fits : r.len ≤ 15
-  pub ready : Ready m r.state
-  pub stays : eqb r.code 0 ≡ false → r.state ≡ c
+  pub fits : IfOk r (λ n. n.len ≤ 15)
+  pub ready : IfOk r (λ n. Ready m n.state)
 
 -- an answer that is handed on: after a refusal the index of n terms is cut
-pub record CutRefused {X : Type 0} (is_refusal : X → Bool) (l l' : List ℕ) (n : ℕ) (r o : X) : Type 0 where
+pub record CutRefused {A : Type 0} (l l' : List ℕ) (n : ℕ) (r o : Result A Refusal) : Type 0 where
   pub same : o ≡ r
-  pub given : is_refusal r ≡ false → l' ≡ l
-  pub refused : is_refusal r ≡ true → Cut l l' n
-
--- a make that was refused
-abbrev pub unmade : Made → Bool
-unmade (Term t d) = false
-unmade (Refused k) = true
+  pub given : is_err r ≡ false → l' ≡ l
+  pub refused : is_err r ≡ true → Cut l l' n

@@ -24,6 +24,10 @@ pub record Searchable (l : List ℕ) (n b : ℕ) (p : ℕ → Bool) : Type 0 whe
   pub small : b < buckets
   pub lies : (t : ℕ) → within n t ≡ true → p t ≡ true → f t ≡ b
 
+-- each answer on a term t is p t
+abbrev pub Tests : (ℕ → Bool → Type 0) → (ℕ → Bool) → Type 0
+Tests answers p = (t : ℕ) (r : Bool) → answers t r → r ≡ p t
+
 -- r is the first term of the chain of bucket b that passes, or 0
 abbrev pub FirstIn : List ℕ → ℕ → (ℕ → Bool) → ℕ → Type 0
 FirstIn l b p r = (ts : List ℕ) → Chain (next_at l) (head_at l b) ts → r ≡ or_none (first_of p ts)

@@ -1,31 +1,23 @@
--- Two string terms compared: the ways of `same`.
+-- Two constants compared by their characters, and what the classes of two string terms are read by.
 use mathlib.Core.Path.{◌≡◌, sym, ap, ◌∙◌}
 use mathlib.Core.Bool.{Bool, true, false, ◌&&◌}
 use mathlib.Core.List.{List}
 use Prim.Native.Nat.{ℕ, suc, ◌+◌, ◌-◌, ◌≤◌}
 use native.Mathlib.Omega.{arith}
 use lib.ListN.{length, take, drop, get_or}
-use lib.Dec.{eqb}
-use borrow.Author.Tests.{eqb-true, eq-eqb, ne_eqb}
+use borrow.Author.Tests.{eqb-true}
 use Rattle.records.specs.declared.State.{State}
 use Rattle.records.specs.Lists.{same_word}
-use Rattle.records.specs.Store.{Store, within, term, kind, class_up, root_in, is_constant, is_string, text, same_class}
+use Rattle.records.specs.Store.{Store, within, term, kind, class_up, is_constant, is_string, text}
 use Rattle.records.specs.View.{lent, term_at, terms_view, span, read_in}
 use Rattle.records.specs.Working.Audited.{Closed}
-use Rattle.records.proofs.Lists.{both_left, both_right, left_false, table-length, word-differs}
+use Rattle.records.proofs.Lists.{both_left, both_right, table-length, word-differs}
 use Rattle.records.proofs.Views.{first-at, second_at, text-span, agree-part}
 use Rattle.records.proofs.Grown.{kind-term, string-term}
 use Rattle.records.proofs.Climbs.{ready_roots}
-use Rattle.sides.specs.Wordeq.{same}
 use Rattle.sides.specs.Working.Stripping.{Readable}
 
 -- TWO CONSTANTS
-
-pub both-other : (k x : ℕ) (b : Bool) → k ≡ x → (k ≡ 1 → ⊥) → false ≡ (eqb x 1 && b)
-both-other k x b e d = sym (left_false _ _ (ne_eqb x 1 (λ q. d (e ∙ q))))
-
-pub both-last : (k x j y : ℕ) → k ≡ x → k ≡ 1 → j ≡ y → eqb j 1 ≡ (eqb x 1 && eqb y 1)
-both-last k x j y e d f = rw (eq-eqb x 1 (sym e ∙ d), f)
 
 module _ {t h : List ℕ} {c : State} (able : Readable t h c) where
   abbrev s : Store
@@ -88,22 +80,3 @@ module _ {t h : List ℕ} {c : State} (able : Readable t h c) where
 
   pub roots-closed : Closed (class_up (terms_view t c.terms)) c.terms
   roots-closed = ready_roots (lent t able.cells h able.reasons able.keys) c able.ready.audited.classed
-
-  pub classes-compared : (a b x y : ℕ) → x ≡ root_in (terms_view t c.terms) a → y ≡ root_in (terms_view t c.terms) b → eqb x y ≡ same_class s a b
-  classes-compared a b x y e f = rw (e, f)
-
--- SAME
-
-module _ (s : Store) (a b : ℕ) where
-  pub same_number : a ≡ b → true ≡ same s a b
-  unfolding same
-  same_number e = rw (eq-eqb a b e)
-
-  module _ (d : a ≡ b → ⊥) (x : Bool) (i : x ≡ (is_constant s a && is_constant s b)) where
-    pub same-constants : x ≡ true → (r : Bool) → r ≡ same_word (text s a) (text s b) → r ≡ same s a b
-    unfolding same
-    same-constants j r e = rw (ne_eqb a b d, sym i ∙ j) e
-
-    pub same-classes : x ≡ false → (r : Bool) → r ≡ same_class s a b → r ≡ same s a b
-    unfolding same
-    same-classes j r e = rw (ne_eqb a b d, sym i ∙ j) e

@@ -1,6 +1,6 @@
 -- Step 2 place by place: the non-empty constants counted, and the first atom of a class with one of them at another place.
 use Rattle.std.specs.Prelude.{if◌then◌else◌}
-use mathlib.Core.Path.{◌≡◌, refl, sym, ap, subst, ◌∙◌}
+use mathlib.Core.Path.{◌≡◌, refl, sym, ap, ◌∙◌}
 use mathlib.Core.Bool.{Bool, true, false, ◌&&◌, ◌||◌}
 use mathlib.Core.List.{List, [], ◌∷◌, ◌++◌}
 use mathlib.Core.Option.{Option, none, some}
@@ -10,27 +10,17 @@ use native.Mathlib.Omega.{arith}
 use lib.ListN.{length, get_or, take, drop, take-append-drop, drop_of_length-le}
 use lib.Seq.{take-suc}
 use lib.Dec.{eqb, ltb}
-use borrow.Author.Tests.{eq-eqb, ne_eqb, lt-ltb, le-ltb, ltb-true, ltb-false}
+use borrow.Author.Tests.{lt-ltb, le-ltb, ltb-true, ltb-false}
 use Rattle.records.specs.declared.State.{State}
 use Rattle.records.specs.Lists.{any, keep}
 use Rattle.records.specs.Store.{Store, root, same_class}
 use Rattle.records.specs.View.{Lent, store_of, termed}
 use Rattle.records.proofs.Lists.{both_left, decide, drop_head}
-use Rattle.records.proofs.Loops.{Summing, summing_turn}
 use Rattle.sides.specs.Wordeq.{is_full, occurrence}
 use Rattle.sides.specs.Working.Sides.{Texts}
 use Rattle.sides.specs.Working.Occurring.{at_place, own_count}
 use Rattle.sides.proofs.SideReady.{full-whole}
 use Rattle.sides.proofs.FirstOfKind.{any_same}
-
--- ONE ATOM
-
-module _ (s : Store) (a : ℕ) (x : Bool) (e : x ≡ is_full s a) where
-  pub own-full : x ≡ true → 1 ≡ own_count s a
-  own-full t = rw (sym e ∙ t)
-
-  pub own-none : x ≡ false → 0 ≡ own_count s a
-  own-none t = rw (sym e ∙ t)
 
 -- COUNTED
 
@@ -40,13 +30,6 @@ module _ (p : ℕ → Bool) where
   count-cons a l = go (p a)
     where
       go : (b : Bool) → length (if b then (a ∷ keep p l) else keep p l) ≡ (if b then 1 else 0) + length (keep p l)
-      go true = omega arith
-      go false = omega arith
-
-  one_most : (a : ℕ) → (if p a then 1 else 0) ≤ 1
-  one_most a = go (p a)
-    where
-      go : (b : Bool) → (if b then 1 else 0) ≤ 1
       go true = omega arith
       go false = omega arith
 
@@ -64,25 +47,7 @@ module _ (p : ℕ → Bool) where
       go true ih = sym (lt-ltb 0 (suc (length (keep p l))) (omega arith))
       go false ih = ih
 
--- n of the first i
-abbrev pub full_count : Store → List ℕ → ℕ
-full_count s l = length (keep (is_full s) l)
-
-pub fulls_none : (s : Store) → full_count s [] ≡ 0
-unfolding keep
-fulls_none s = refl
-
-pub fulls_turn : (s : Store) (l : List ℕ) (n i k : ℕ) → Summing (full_count s) 1 l n i → i < length l → k ≡ own_count s (get_or l i 0) → Summing (full_count s) 1 l (n + k) (i + 1)
-fulls_turn s l n i k x q e =
-    summing_turn (full_count s) 1 l n i x (own_count s) (count-cons (is_full s)) k q e (subst (λ (z : ℕ). z ≤ 1) (sym e) (one_most (is_full s) (get_or l i 0)))
-
 -- AT ANOTHER PLACE
-
-pub here-not : (s : Store) (a x n r : ℕ) → r ≡ root s a → (r ≡ x → ⊥) → false ≡ (eqb (root s a) x && ltb (own_count s a) n)
-here-not s a x n r e d = rw (ne_eqb (root s a) x (λ z. d (e ∙ z)))
-
-pub here-is : (s : Store) (a x n r k : ℕ) (b : Bool) → r ≡ root s a → r ≡ x → k ≡ own_count s a → b ≡ ltb k n → b ≡ (eqb (root s a) x && ltb (own_count s a) n)
-here-is s a x n r k b e d f g = rw (eq-eqb (root s a) x (sym e ∙ d)) (g ∙ ap (λ (z : ℕ). ltb z n) f)
 
 past-own : (k y n : ℕ) → n ≡ k + y → ltb 0 y ≡ ltb k n
 past-own k y n e =
@@ -111,15 +76,11 @@ place-past l i q = rw (le-ltb i (length l) q)
 
 -- it is not one of the first i
 pub record Seeking (s : Store) (x : ℕ) (l : List ℕ) (i : ℕ) : Type 0 where
-  pub within : i ≤ length l
   pub rest : occurrence s x (take i l) (drop i l) ≡ occurrence s x [] l
 
-pub seeking_none : (s : Store) (x : ℕ) (l : List ℕ) → Seeking s x l 0
-seeking_none s x l = record { within = omega arith; rest = refl }
-
-pub seeking_end : (s : Store) (x : ℕ) (l : List ℕ) (i : ℕ) → Seeking s x l i → length l ≤ i → occurrence s x [] l ≡ at_place l i
+pub seeking_end : (s : Store) (x : ℕ) (l : List ℕ) (i : ℕ) → Seeking s x l i → length l ≤ i → occurrence s x [] l ≡ at_place l (length l)
 unfolding occurrence
-seeking_end s x l i g q = sym g.rest ∙ (rw (drop_of_length-le l q) (sym (place-past l i q)))
+seeking_end s x l i g q = sym g.rest ∙ (rw (drop_of_length-le l q) (sym (place-past l (length l) (omega arith))))
 
 module _ (s : Store) (x : ℕ) (l : List ℕ) (i n r : ℕ) (b : Bool) (g : Seeking s x l i) (q : i < length l) (f : n ≡ length (keep (is_full s) l)) (z : r ≡ root s x)
     (e : b ≡ (eqb (root s (get_or l i 0)) r && ltb (own_count s (get_or l i 0)) n)) where
@@ -140,7 +101,6 @@ module _ (s : Store) (x : ℕ) (l : List ℕ) (i n r : ℕ) (b : Bool) (g : Seek
 
   pub seeking_turn : b ≡ false → Seeking s x l (i + 1)
   seeking_turn y = record {
-    within = omega arith;
     rest =
         ap (λ (j : List ℕ). occurrence s x j (drop (i + 1) l)) (rw (add-one i) (take-suc l i 0 q))
         ∙ sym (miss s x (take i l) (get_or l i 0) (drop (i + 1) l) (here ∙ y)) ∙ sym from;

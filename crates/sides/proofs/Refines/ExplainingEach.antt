@@ -8,16 +8,17 @@ use lib.ListN.{length, drop, get_or, drop_of_length-le}
 use lib.Dec.{eqb}
 use borrow.Author.Tests.{eqb-true, eq-eqb, ne_eqb}
 use Rattle.records.specs.declared.State.{State}
-use Rattle.records.specs.declared.Added.TheVariants as adding
+use Rattle.std.specs.Prelude.{Ok, Err}
+use Rattle.records.specs.declared.refusal.Refusal.{Refusal}
 use Rattle.records.specs.Lists.{all, keep, Every, none_left, and}
 use Rattle.records.specs.Store.{Store, Term, Out, ok, Work, and_then, term_in, is_constant, is_string, root, same_class}
 use Rattle.records.specs.View.{Lent, lent, store_of, terms_view, read_in}
 use Rattle.records.specs.Working.Audited.{Audited, Ready}
 use Rattle.records.specs.Calls.{added}
 use Rattle.records.specs.Working.Doing.{Working}
-use Rattle.records.proofs.Lists.{both_left, both_right, both_true, clash, decide, every_at, drop_head}
+use Rattle.records.proofs.Lists.{both_left, both_right, clash, decide, every_at, drop_head}
 use Rattle.records.proofs.Doing.{working_same, working_is}
-use Rattle.engine.specs.Explain.{explain, explain_arguments}
+use Rattle.engine.specs.Explain.{explain}
 use Rattle.records.proofs.Outcomes.{ends-give, ends-map, ends_if}
 use Rattle.sides.specs.Wordeq.{same, explain_all, variables}
 use Rattle.sides.specs.Working.Stripping.{Pair}
@@ -27,21 +28,17 @@ use Rattle.sides.proofs.Cited.{Cited, cited-none, cited-map, explain-ends}
 use Rattle.sides.proofs.Strip.{same_class_lem}
 use Rattle.sides.proofs.Refines.AddingReasons.{going_pair, terms_kept}
 use Rattle.sides.proofs.Refines.Turning.{Turning, turning_none, turning_end, turning_refused, turning_on}
-use Rattle.records.specs.declared.Added.{Added as Answered}
 
 -- ONE ATOM
 
 module _ (t e h r ks : List ℕ) (c : State) (u v k : ℕ) (i : k ≡ (term_in (terms_view t c.terms) u).kind) where
-  pub atom-constant : Ready (lent t e h r ks) c → k ≡ 1 → Working (explain_atom u v) (lent t e h r ks) (lent t e h r ks) c (added (adding.Counts c) (lent t e h r ks))
+  pub atom-constant : Ready (lent t e h r ks) c → k ≡ 1 → Working (explain_atom u v) (lent t e h r ks) (lent t e h r ks) c (added (Ok c) (lent t e h r ks))
   unfolding explain_atom
   atom-constant d j = working_same d (rw (eq-eqb (term_in (terms_view t c.terms) u).kind 1 (sym i ∙ j)))
 
   module _ (d : k ≡ 1 → ⊥) where
     other : eqb (term_in (terms_view t c.terms) u).kind 1 ≡ false
     other = ne_eqb _ 1 (λ q. d (i ∙ q))
-
-    pub atom_arguments : Pair (read_in t h c) u v → OneClass (terms_view t c.terms) u v → explain_arguments u v (store_of (lent t e h r ks) c) ≡ true
-    atom_arguments p o = both_true _ _ (both_true _ _ p.one p.other) (o.class other)
 
     pub atom-explained : {m' : Lent} {o : Out (Unit {0})} → Working (explain u v) (lent t e h r ks) m' c o → Working (explain_atom u v) (lent t e h r ks) m' c o
     unfolding explain_atom
@@ -78,7 +75,7 @@ module _ (t e h ks l : List ℕ) (v : ℕ) where
   citing-none {c} d = turning_none t e h ks (left c) d
 
   module _ {c d : State} {rs rs₁ : List ℕ} {i : ℕ} (g : Citing c rs d rs₁ i) where
-    pub citing-end : length l ≤ i → Working (explain_all (variables (read_in t h c) l) v) (lent t e h rs ks) (lent t e h rs₁ ks) c (added (adding.Counts d) (lent t e h rs₁ ks))
+    pub citing-end : length l ≤ i → Working (explain_all (variables (read_in t h c) l) v) (lent t e h rs ks) (lent t e h rs₁ ks) c (added (Ok d) (lent t e h rs₁ ks))
     unfolding keep explain_all
     citing-end z = turning_end t e h ks (left c) g (rw (drop_of_length-le l z))
 
@@ -94,13 +91,15 @@ module _ (t e h ks l : List ℕ) (v : ℕ) where
           ap (λ (x : List ℕ). explain_all (variables (read_in t h c) x) v (now rs₁ d)) (drop_head l i b)
           ∙ atom-step (read_in t h c) (get_or l i 0) v (drop (i + 1) l) (now rs₁ d) (ap (λ (x : List Term). eqb (term_in x (get_or l i 0)).kind 1) (terms_kept t e h ks g.going)) (explain_atom (get_or l i 0) v (now rs₁ d)) refl
 
-      module _ (rs₂ : List ℕ) (y : Answered) (w : Working (explain_atom (get_or l i 0) v) (lent t e h rs₁ ks) (lent t e h rs₂ ks) d (added y (lent t e h rs₂ ks))) where
-        pub citing-refused : (n : ℕ) → y ≡ adding.Refused n → Working (explain_all (variables (read_in t h c) l) v) (lent t e h rs ks) (lent t e h rs₂ ks) c (added (adding.Refused n) (lent t e h rs₂ ks))
-        citing-refused = turning_refused t e h ks (left c) g (explain_atom (get_or l i 0) v) next rs₂ y w
+      module _ (rs₂ : List ℕ) where
+        pub citing-refused : (n : Refusal) → Working (explain_atom (get_or l i 0) v) (lent t e h rs₁ ks) (lent t e h rs₂ ks) d (added (Err n) (lent t e h rs₂ ks))
+            → Working (explain_all (variables (read_in t h c) l) v) (lent t e h rs ks) (lent t e h rs₂ ks) c (added (Err n) (lent t e h rs₂ ks))
+        citing-refused n w = turning_refused t e h ks (left c) g (explain_atom (get_or l i 0) v) next rs₂ n w
 
-        pub citing-turn : (d₂ : State) → y ≡ adding.Counts d₂ → Citing c rs d₂ rs₂ (i + 1)
-        citing-turn d₂ j =
-            turning_on t e h ks (left c) g (explain_atom (get_or l i 0) v) next rs₂ y w d₂ j ((atom-ends (get_or l i 0) v (now rs₁ d) g.going.ready.audited citing-pair.one citing-pair.other citing-class.class).given (now rs₂ d₂) tt)
+        pub citing-turn : (d₂ : State) → Working (explain_atom (get_or l i 0) v) (lent t e h rs₁ ks) (lent t e h rs₂ ks) d (added (Ok d₂) (lent t e h rs₂ ks)) → Citing c rs d₂ rs₂ (i + 1)
+        citing-turn d₂ w =
+            turning_on t e h ks (left c) g (explain_atom (get_or l i 0) v) next rs₂ d₂ w
+            ((atom-ends (get_or l i 0) v (now rs₁ d) g.going.ready.audited citing-pair.one citing-pair.other citing-class.class).given (now rs₂ d₂) tt)
 
 -- WHAT STEP 5 TESTED is what the loop requires
 

@@ -1,7 +1,7 @@
--- Step 5: the first variable of a side, how many variables there are, and whether one word for all of them fits.
+-- Step 5: the first variable of a side, and whether one word for all of its variables fits.
 use Rattle.std.specs.Prelude.{if◌then◌else◌}
 use mathlib.Core.Path.{◌≡◌, refl, sym, ap, ◌∙◌}
-use mathlib.Core.Bool.{Bool, true, false, not, ◌&&◌}
+use mathlib.Core.Bool.{Bool, true, false, ◌&&◌}
 use mathlib.Core.List.{List, [], ◌∷◌, ◌++◌}
 use Prim.Native.Nat.{ℕ, zero, suc, ◌+◌, ◌*◌, ◌-◌, ◌/◌, ◌%◌, ◌<◌, ◌≤◌}
 use native.Mathlib.Nat.{mul_comm, div-le_self, div-add-mod'}
@@ -10,15 +10,14 @@ use lib.ListN.{length, get_or, take, drop, length-append, length-drop, take-appe
 use lib.Dec.{eqb}
 use borrow.Author.Tests.{eq-eqb, ne_eqb}
 use Rattle.records.specs.declared.State.{State}
-use Rattle.records.specs.Lists.{all, keep, concat_map, same_word}
-use Rattle.records.specs.Store.{Store, kind, is_constant, is_string, text}
+use Rattle.records.specs.Lists.{all, concat_map, same_word}
+use Rattle.records.specs.Store.{Store, is_constant, is_string, text}
 use Rattle.records.specs.View.{lent, store_of, read_in, termed}
-use Rattle.records.proofs.Lists.{both_left, both_right, left_false, and-next, or-stop, or-next, clash, all_every, every_at, concat_map-append}
-use Rattle.records.proofs.Loops.{Summing, summing_turn}
-use Rattle.sides.specs.Wordeq.{same, fixed, letters_of, letters, filled, lead, forced, first_span, fits, variables}
+use Rattle.records.proofs.Lists.{both_left, both_right, left_false, and-next, clash, all_every, every_at, concat_map-append}
+use Rattle.sides.specs.Wordeq.{fixed, letters_of, letters, filled, lead, forced, first_span, fits}
 use Rattle.sides.specs.Working.Sides.{Spelled, rest, Tiling}
 use Rattle.sides.specs.Working.Stripping.{Pair}
-use Rattle.sides.specs.Working.Spans.{FirstVariable, agrees}
+use Rattle.sides.specs.Working.Spans.{FirstVariable}
 use Rattle.sides.proofs.SideReady.{length_whole}
 
 -- THE FIRST VARIABLE
@@ -53,50 +52,7 @@ module _ (s : Store) where
         let g = ap length f ∙ length-append (letters s (take i r)) (letters s (drop i r)) in
         omega arith
 
--- COUNTED
-
--- the variables of the first i atoms
-abbrev pub variable_count : Store → List ℕ → ℕ
-variable_count s l = length (variables s l)
-
-pub tally_none : (s : Store) → variable_count s [] ≡ 0
-unfolding keep
-tally_none s = refl
-
-tally_cons : (s : Store) (a : ℕ) (l : List ℕ) → variable_count s (a ∷ l) ≡ (if is_constant s a then 0 else 1) + variable_count s l
-unfolding keep
-tally_cons s a l = go (is_constant s a)
-  where
-    go : (b : Bool) → length (if not b then (a ∷ variables s l) else variables s l) ≡ (if b then 0 else 1) + length (variables s l)
-    go true = omega arith
-    go false = omega arith
-
-one_most : (b : Bool) → (if b then 0 else 1) ≤ 1
-one_most true = omega arith
-one_most false = omega arith
-
-pub tallied_one : (s : Store) (l : List ℕ) (total i n : ℕ) → Summing (variable_count s) 1 l total i → i < length l → n ≡ (if is_constant s (get_or l i 0) then 0 else 1)
-    → Summing (variable_count s) 1 l (total + n) (i + 1)
-tallied_one s l total i n a q e =
-    summing_turn (variable_count s) 1 l total i a (λ t. if is_constant s t then 0 else 1) (tally_cons s) n q e
-    (let b = one_most (is_constant s (get_or l i 0)) in omega arith)
-
-module _ (s : Store) (a k : ℕ) (e : k ≡ kind s a) where
-  pub count_no : k ≡ 1 → ◌≡◌ {A = ℕ} 0 (if is_constant s a then 0 else 1)
-  count_no n = rw (eq-eqb (kind s a) 1 (sym e ∙ n))
-
-  pub count-one : (k ≡ 1 → ⊥) → ◌≡◌ {A = ℕ} 1 (if is_constant s a then 0 else 1)
-  count-one n = rw (ne_eqb (kind s a) 1 (λ z. n (e ∙ z)))
-
-  -- ONE CLASS
-
-  pub agrees-constant : (v : ℕ) → k ≡ 1 → true ≡ agrees s v a
-  unfolding agrees
-  agrees-constant v n = or-stop _ _ (eq-eqb (kind s a) 1 (sym e ∙ n))
-
-  pub agrees-other : (v : ℕ) (b : Bool) → (k ≡ 1 → ⊥) → b ≡ same s a v → b ≡ agrees s v a
-  unfolding agrees
-  agrees-other v b n f = or-next _ _ b (ne_eqb (kind s a) 1 (λ z. n (e ∙ z))) f
+-- ONE CLASS
 
 pub pair_at_lem : (s : Store) (l : List ℕ) → all (is_string s) l ≡ true → (v : ℕ) → is_string s v ≡ true → (i : ℕ) → i < length l → Pair s (get_or l i 0) v
 pair_at_lem s l e v f i b = record { one = every_at l i 0 (all_every _ l e) b; other = f }
@@ -152,15 +108,14 @@ module _ (w h : List ℕ) (c : State) (word side : List ℕ) (k l n : ℕ) (x : 
     even : (l - n) % k ≡ 0 → k * forced s (letters s word) side k + length (letters s side) ≡ length (letters s word)
     even f = let a = long in let b = wide in more _ _ _ (omega arith) (sym product ∙ no_rest _ _ _ (div-add-mod' (l - n) k) f ∙ apart)
 
-    module _ (i : ℕ) (first : FirstVariable (termed w c) side i) (place : ℕ) (g : place ≡ length (letters (termed w c) (take (i - 0) (drop 0 side)))) where
+    module _ (i : ℕ) (first : FirstVariable (termed w c) side i) (place : ℕ) (g : place ≡ length (letters (termed w c) (take i side))) where
       read_in-first : FirstVariable s side i
       unfolding fixed
       read_in-first = record { within = first.within; before = first.before; at = first.at }
 
       place_is : place ≡ length (lead s side)
       place_is =
-          let e : i - 0 ≡ i = omega arith in
-          g ∙ ap (λ (y : ℕ). length (letters (termed w c) (take y side))) e
+          g
           ∙ length_whole (lent w [] h [] []) c x.texts (take i side) ∙ ap length (sym (lead_is s side i read_in-first))
 
       pub span-there : Tiling w h c word (record { atom = 0; place = place }) ((l - n) / k)

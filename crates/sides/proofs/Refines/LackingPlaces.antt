@@ -2,15 +2,18 @@
 use Rattle.std.specs.Prelude.{if◌then◌else◌}
 use mathlib.Core.Path.{◌≡◌, refl, sym, ap, ◌∙◌}
 use mathlib.Core.Bool.{Bool, true, false, ◌||◌}
-use mathlib.Core.List.{List, [], ◌∷◌}
+use mathlib.Core.List.{List, [], ◌∷◌, ◌++◌, append-nil}
 use mathlib.Core.Logic.{⊎_elim}
-use Prim.Native.Nat.{ℕ, zero, suc, ◌+◌, ◌<◌, ◌≤◌}
-use native.Mathlib.Nat.{le_antisymm, eq-or-lt_of_le, le_of_suc-le-suc, not-suc-le-zero}
+use Prim.Native.Nat.{ℕ, zero, suc, ◌+◌, ◌-◌, ◌<◌, ◌≤◌}
+use native.Mathlib.Nat.{eq-or-lt_of_le, le_of_suc-le-suc, not-suc-le-zero}
 use native.Mathlib.Numerals.{add-one}
 use native.Mathlib.Omega.{arith}
-use lib.ListN.{length, get_or, set, replicate, length-set, get_or-replicate}
-use lib.Seq.{get_or-set_same, get_or-set_other}
+use lib.ListN.{take, drop, take-append-drop, length, get_or, set, replicate, length-set, length-replicate, get_or-replicate}
+use lib.Seq.{paste, get_or-set_same, get_or-set_other}
 use lib.Dec.{eqb}
+use borrow.Rule.Slice.PartMut.{put_mid}
+use Rattle.std.proofs.lemmas.Slice.{put_mid-paste}
+use Rattle.std.proofs.lemmas.List.Edits.{fill_from_more}
 use borrow.Author.Tests.{eqb-true, eq-eqb, ne_eqb}
 use Rattle.records.specs.Lists.{any, table, is_in}
 use Rattle.records.specs.View.{span}
@@ -63,9 +66,6 @@ pub unseen_none : (h t : List ℕ) (n x : ℕ) → Unseen h t n x 0
 unseen_none h t n x = record { within = omega arith; none = seen-zero h t x }
 
 module _ (h t : List ℕ) (n x i : ℕ) (a : Unseen h t n x i) where
-  pub unseen_done : n ≤ i → false ≡ seen h t n x
-  unseen_done q = let e : i ≡ n = le_antisymm a.within q in sym (ap (λ (z : ℕ). seen h t z x) (sym e) ∙ a.none)
-
   module _ (b : Bool) (e : b ≡ used_at h t x i) (q : i < n) where
     pub unseen_stop : b ≡ true → true ≡ seen h t n x
     unfolding seen
@@ -149,22 +149,18 @@ unfolding used
 used-length t p zero = refl
 used-length t p (suc n) = length-set (used t p n) (p + n) 1 ∙ used-length t p n
 
--- the first j places of a text are used
-pub record Using (t₀ : List ℕ) (p n : ℕ) (t : List ℕ) (j : ℕ) : Type 0 where
-  pub within : j ≤ n
-  pub is : t ≡ used t₀ p j
-
-pub using_none : (t : List ℕ) (p n : ℕ) → Using t p n t 0
+-- the places of a text are filled
+pub used-filled : (t : List ℕ) (p n : ℕ) (ys : List ℕ) → p + n ≤ length t → ys ≡ replicate n 1 → put_mid p (p + n - p) t ys ≡ used t p n
 unfolding used
-using_none t p n = record { within = omega arith; is = refl }
-
-module _ (t₀ : List ℕ) (p n : ℕ) (t : List ℕ) (j : ℕ) (a : Using t₀ p n t j) where
-  pub using_one : j < n → Using t₀ p n (set t (p + j) 1) (j + 1)
-  unfolding used
-  using_one q = record { within = omega arith; is = rw add-one (ap (λ (z : List ℕ). set z (p + j) 1) a.is) }
-
-  pub using_done : n ≤ j → t ≡ used t₀ p n
-  using_done q = a.is ∙ ap (used t₀ p) (le_antisymm a.within q)
+used-filled t p n ys l e = put_mid-paste p (p + n - p) t ys (replicate n 1) n e (omega arith) (sym (length-replicate n 1)) ∙ filled n l
+  where
+    filled : (k : ℕ) → p + k ≤ length t → paste t p (replicate k 1) k ≡ used t p k
+    filled zero q =
+        let z : p + 0 ≡ p = omega arith in
+        ap (λ (y : ℕ). take p t ++ [] ++ drop y t) z ∙ ap (λ (y : List ℕ). y ++ drop p t) (append-nil (take p t)) ∙ take-append-drop p t
+    filled (suc k) q =
+        let z : k + 1 ≡ suc k = omega arith in
+        sym (rw z at (fill_from_more t p k 1 (omega arith))) ∙ ap (λ (y : List ℕ). set y (p + k) 1) (filled k (omega arith))
 
 is_in-more : (x : ℕ) (f : ℕ → ℕ) (n : ℕ) → is_in x (table f (suc n)) ≡ (is_in x (table f n) || eqb x (f n))
 unfolding is_in

@@ -12,7 +12,7 @@ use Rattle.records.specs.declared.State.{State}
 use Rattle.records.specs.Lists.{any, is_in}
 use Rattle.records.specs.Store.{Store, Term, kind}
 use Rattle.records.specs.View.{lent, char_limit, span, read_in, termed, term_at}
-use Rattle.records.proofs.Lists.{any_append, any-turn, any-stop, any-done, any-zero, or_left, or_none_lem, right-false, and-stop, and-next, failed, passed, clash}
+use Rattle.records.proofs.Lists.{any_append, any-turn, any-stop, any-zero, or_left, or_none_lem, right-false, and-stop, and-next, failed, passed, clash}
 use Rattle.records.proofs.Views.{term-there, text-words}
 use Rattle.sides.specs.Wordeq.{fixed, letters_of, letters, absent}
 use Rattle.sides.specs.Working.Sides.{Texts}
@@ -82,9 +82,6 @@ pub record UsingSide (w : List ℕ) (c : State) (l t₀ t : List ℕ) (i : ℕ) 
   pub size : length t ≡ length t₀
   pub rest : (h : List ℕ) (x : ℕ) → (seen h t c.chars x || is_in x (letters (read_in w h c) (drop i l))) ≡ (seen h t₀ c.chars x || is_in x (letters (read_in w h c) l))
 
-pub using_side_none : (w : List ℕ) (c : State) (l t : List ℕ) → UsingSide w c l t t 0
-using_side_none w c l t = record { size = refl; rest = λ h x. refl }
-
 module _ (w : List ℕ) (c : State) (l t₀ t : List ℕ) (i : ℕ) (m : UsingSide w c l t₀ t i) where
   pub using_side_one : (t' : List ℕ) → i < length l → Uses c.chars (λ h. letters_of (read_in w h c) (get_or l i 0)) t t' → UsingSide w c l t₀ t' (i + 1)
   using_side_one t' q d = record {
@@ -122,9 +119,6 @@ pub looked_none : (h : List ℕ) (n p k : ℕ) (t : List ℕ) → Looked h n p k
 looked_none h n p k t = record { within = omega arith; size = refl; none = any-zero (λ x. not (seen h t n x)) (λ i. get_or h (p + i) 0); kept = λ x. refl }
 
 module _ (h : List ℕ) (n p k : ℕ) (t₀ t : List ℕ) (j : ℕ) (a : Looked h n p k t₀ t j) where
-  pub looked_done : k ≤ j → Lacking h n (span h p k) t₀ t false
-  looked_done q = record { says = any-done (λ x. not (seen h t₀ n x)) (λ i. get_or h (p + i) 0) k j a.within q a.none; size = a.size; kept = λ z. a.kept }
-
   module _ (b : Bool) (e : b ≡ seen h t n (get_or h (p + j) 0)) (q : j < k) where
     pub looked_stop : not b ≡ true → Lacking h n (span h p k) t₀ t true
     looked_stop z = record {
@@ -149,9 +143,6 @@ pub record Found (s : Store) (h : List ℕ) (n : ℕ) (l t₀ t : List ℕ) (i :
   pub rest : any (λ x. not (seen h t₀ n x)) (letters s (drop i l)) ≡ any (λ x. not (seen h t₀ n x)) (letters s l)
   pub size : length t ≡ length t₀
   pub kept : (x : ℕ) → seen h t n x ≡ seen h t₀ n x
-
-pub found_none : (s : Store) (h : List ℕ) (n : ℕ) (l t : List ℕ) → Found s h n l t t 0
-found_none s h n l t = record { rest = refl; size = refl; kept = λ x. refl }
 
 module _ (s : Store) (h : List ℕ) (n : ℕ) (l t₀ t : List ℕ) (i : ℕ) (a : Found s h n l t₀ t i) where
   pub found-done : length l ≤ i → Lacking h n (letters s l) t₀ t false

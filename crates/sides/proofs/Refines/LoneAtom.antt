@@ -10,7 +10,8 @@ use lib.ListN.{length, get_or}
 use lib.Dec.{leb}
 use borrow.Author.Tests.{eq-eqb, ne_eqb, leb-true}
 use Rattle.records.specs.declared.State.{State}
-use Rattle.records.specs.declared.Added.TheVariants as adding
+use Rattle.std.specs.Prelude.{Result, Ok, Err}
+use Rattle.records.specs.declared.refusal.Refusal.{Refusal}
 use Rattle.records.specs.Lists.{all}
 use Rattle.records.specs.Store.{Store, ok, and_then, term_in, within, class_up, is_constant, is_string}
 use Rattle.records.specs.View.{Lent, lent, store_of, terms_view, termed}
@@ -29,9 +30,7 @@ use Rattle.sides.specs.Working.Occurring.{at_place}
 use Rattle.sides.proofs.SideReady.{ready-read_in}
 use Rattle.records.proofs.Climbs.{string-within, ready_roots}
 use Rattle.records.proofs.Works.{one_store}
-use Rattle.records.proofs.Sequence.{added-at}
 use Rattle.sides.proofs.Refines.Elsewhere.{place_in, place-past, occurrence-whole, occurrence-class}
-use Rattle.records.specs.declared.Added.{Added as Answered}
 
 unless_lone : (l o : List ℕ) (s : Store) → (length l ≡ 1 → ⊥) → occurs l o s ≡ ok s none
 unfolding occurs
@@ -61,17 +60,17 @@ module _ (t e h r ks : List ℕ) (c : State) (l o : List ℕ) where
   abbrev s : Store
   s = store_of m c
 
-  passes : Ready m c → occurs l o s ≡ ok s none → Tries (occurs l o) m m c (step.Done c)
+  passes : Ready m c → occurs l o s ≡ ok s none → Tries (occurs l o) m m c (Ok (step.Done c))
   passes d p = record { is = λ k. working_same d p }
 
-  pub not_lone : Ready m c → (length l ≡ 1 → ⊥) → Tries (occurs l o) m m c (step.Done c)
+  pub not_lone : Ready m c → (length l ≡ 1 → ⊥) → Tries (occurs l o) m m c (Ok (step.Done c))
   not_lone d n = passes d (unless_lone l o s n)
 
   module _ (n : length l ≡ 1) (k : ℕ) (i : k ≡ (term_in (terms_view t c.terms) (get_or l 0 0)).kind) where
     only : occurs l o s ≡ occurs (get_or l 0 0 ∷ []) o s
     only = ap (λ (z : List ℕ). occurs z o s) (lone_is l n)
 
-    pub lone_constant : Ready m c → k ≡ 1 → Tries (occurs l o) m m c (step.Done c)
+    pub lone_constant : Ready m c → k ≡ 1 → Tries (occurs l o) m m c (Ok (step.Done c))
     lone_constant d j = passes d (only ∙ occurs-constant (get_or l 0 0) o s (eq-eqb (term_in (terms_view t c.terms) (get_or l 0 0)).kind 1 (sym i ∙ j)))
 
   module _ (d : Ready m c) (b : BothLists s l o) where
@@ -101,19 +100,20 @@ module _ (t e h r ks : List ℕ) (c : State) (l o : List ℕ) where
       on : (y : Option ℕ) → at_place o p ≡ y → occurs l o s ≡ occurs_at (get_or l 0 0) y s
       on y g = only n k i ∙ occurs-other (get_or l 0 0) o s (ne_eqb (term_in (terms_view t c.terms) (get_or l 0 0)).kind 1 (λ z. j (i ∙ z))) y (found ∙ g)
 
-      pub not_found : length o ≤ p → Tries (occurs l o) m m c (step.Done c)
+      pub not_found : length o ≤ p → Tries (occurs l o) m m c (Ok (step.Done c))
       not_found z = passes d (on none (place-past o p z))
 
       module _ (z : p < length o) where
         pub found_arguments : explain_arguments (get_or o p 0) (get_or l 0 0) s ≡ true
         found_arguments = both_true _ _ (both_true _ _ (side_string p z) (lone_string n)) (occurrence-class s (get_or l 0 0) [] o (get_or o p 0) (found ∙ place_in o p z))
 
-        module _ (r' : List ℕ) (y : Answered) (w : Working (explain (get_or o p 0) (get_or l 0 0)) m (lent t e h r' ks) c (added y (lent t e h r' ks))) where
-          conflicting : {x : Answered} → y ≡ x → Working (occurs l o) m (lent t e h r' ks) c (and_then (λ u. answer conflict) (added x (lent t e h r' ks)))
-          conflicting g = working_is (on (some (get_or o p 0)) (place_in o p z)) (working_answer (λ u. answer conflict) (λ u s s' x i. one_store i) (added-at g w))
+        module _ (r' : List ℕ) where
+          conflicting : (y : Result State Refusal) → Working (explain (get_or o p 0) (get_or l 0 0)) m (lent t e h r' ks) c (added y (lent t e h r' ks))
+              → Working (occurs l o) m (lent t e h r' ks) c (and_then (λ u. answer conflict) (added y (lent t e h r' ks)))
+          conflicting y w = working_is (on (some (get_or o p 0)) (place_in o p z)) (working_answer (λ u. answer conflict) (λ u s s' x i. one_store i) w)
 
-          pub found-conflict : (d' : State) → y ≡ adding.Counts d' → Tries (occurs l o) m (lent t e h r' ks) c (step.Conflict d')
-          found-conflict d' g = record { is = λ q. conflicting g }
+          pub found-conflict : (d' : State) → Working (explain (get_or o p 0) (get_or l 0 0)) m (lent t e h r' ks) c (added (Ok d') (lent t e h r' ks)) → Tries (occurs l o) m (lent t e h r' ks) c (Ok (step.Conflict d'))
+          found-conflict d' w = record { is = λ q. conflicting (Ok d') w }
 
-          pub found-refused : (q : ℕ) → y ≡ adding.Refused q → Tries (occurs l o) m (lent t e h r' ks) c (step.Refused q)
-          found-refused q g = record { is = λ x. conflicting g }
+          pub found-refused : (q : Refusal) → Working (explain (get_or o p 0) (get_or l 0 0)) m (lent t e h r' ks) c (added (Err q) (lent t e h r' ks)) → Tries (occurs l o) m (lent t e h r' ks) c (Err q)
+          found-refused q w = record { is = λ x. conflicting (Err q) w }

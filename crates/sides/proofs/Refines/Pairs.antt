@@ -7,31 +7,23 @@ use native.Mathlib.Omega.{arith}
 use lib.ListN.{length, drop, get_or, length-drop}
 use borrow.Author.Tests.{not-true, not-false, eq-eqb, ne_eqb}
 use Rattle.records.specs.declared.State.{State}
-use Rattle.records.specs.declared.Added.TheVariants as adding
+use Rattle.std.specs.Prelude.{Ok, Err}
+use Rattle.records.specs.declared.refusal.Refusal.{Refusal}
 use Rattle.records.specs.Lists.{all, same_word}
 use Rattle.records.specs.Store.{Store, Out, ok, Work, and_then, is_constant, is_string, text, same_class}
 use Rattle.records.specs.View.{Lent, lent, store_of, read_in}
 use Rattle.records.specs.Working.Audited.{Ready}
 use Rattle.records.specs.Calls.{added}
 use Rattle.records.specs.Working.Doing.{Working}
-use Rattle.records.proofs.Lists.{both_true, all_every, every_at, drop_head}
+use Rattle.records.proofs.Lists.{all_every, every_at, drop_head}
 use Rattle.records.proofs.Doing.{working_same, working_is}
-use Rattle.engine.specs.Explain.{explain, explain_arguments}
+use Rattle.engine.specs.Explain.{explain}
 use Rattle.sides.specs.Wordeq.{explain_pair, nf_explain}
 use Rattle.sides.specs.Working.Stripping.{Pair, way}
 use Rattle.sides.proofs.Refines.AddingReasons.{going_pair}
 use Rattle.sides.proofs.FrontOrEnd.{way-length, way_every}
 use Rattle.sides.proofs.Refines.Turning.{Turning, turning_none, turning_end, turning_refused, turning_on}
 use Rattle.sides.proofs.Equal.{pair_ends}
-use Rattle.records.specs.declared.Added.{Added as Answered}
-
--- two constants of equal characters
-module _ (s : Store) (a b : ℕ) (x : Bool) (i : x ≡ (is_constant s a && is_constant s b)) where
-  pub alike-not : not x ≡ true → false ≡ (is_constant s a && is_constant s b && same_word (text s a) (text s b))
-  alike-not j = rw (sym i ∙ not-true x j)
-
-  pub alike-text : not x ≡ false → (r : Bool) → r ≡ same_word (text s a) (text s b) → r ≡ (is_constant s a && is_constant s b && same_word (text s a) (text s b))
-  alike-text j r e = rw (sym i ∙ not-false x j) e
 
 -- ONE PAIR
 
@@ -42,24 +34,21 @@ module _ (t e h r ks : List ℕ) (c : State) (a b : ℕ) where
   abbrev s : Store
   s = store_of m c
 
-  pub pair-number : Ready m c → a ≡ b → Working (explain_pair a b) m m c (added (adding.Counts c) m)
+  pub pair-number : Ready m c → a ≡ b → Working (explain_pair a b) m m c (added (Ok c) m)
   unfolding explain_pair
   pair-number y i = working_same y (rw (eq-eqb a b i))
 
   module _ (d : a ≡ b → ⊥) (x : Bool) (i : x ≡ (is_constant s a && is_constant s b && same_word (text s a) (text s b))) where
-    pub pair-alike : Ready m c → x ≡ true → Working (explain_pair a b) m m c (added (adding.Counts c) m)
+    pub pair-alike : Ready m c → x ≡ true → Working (explain_pair a b) m m c (added (Ok c) m)
     unfolding explain_pair
     pair-alike y j = working_same y (rw (ne_eqb a b d, sym i ∙ j))
 
     module _ (j : x ≡ false) (y : Bool) (f : y ≡ same_class s a b) where
-      pub pair-apart : Ready m c → not y ≡ true → Working (explain_pair a b) m m c (added (adding.Counts c) m)
+      pub pair-apart : Ready m c → not y ≡ true → Working (explain_pair a b) m m c (added (Ok c) m)
       unfolding explain_pair
       pair-apart k z = working_same k (rw (ne_eqb a b d, sym i ∙ j, sym f ∙ not-true y z))
 
       module _ (z : not y ≡ false) where
-        pub pair_arguments : Pair (read_in t h c) a b → explain_arguments a b s ≡ true
-        pair_arguments p = both_true _ _ (both_true _ _ p.one p.other) (sym f ∙ not-false y z)
-
         pub pair-explained : {m' : Lent} {o : Out (Unit {0})} → Working (explain a b) m m' c o → Working (explain_pair a b) m m' c o
         unfolding explain_pair
         pair-explained w = working_is (rw (ne_eqb a b d, sym i ∙ j, sym f ∙ not-false y z)) w
@@ -94,7 +83,7 @@ module _ (t e h ks l r : List ℕ) (tail : Bool) where
   pairing_none d = turning_none t e h ks left d
 
   module _ {c d : State} {rs rs₁ : List ℕ} {i : ℕ} (g : Pairing c rs d rs₁ i) where
-    pub pairing_end : length l ≤ i → Working (nf_explain (way tail l) (way tail r)) (lent t e h rs ks) (lent t e h rs₁ ks) c (added (adding.Counts d) (lent t e h rs₁ ks))
+    pub pairing_end : length l ≤ i → Working (nf_explain (way tail l) (way tail r)) (lent t e h rs ks) (lent t e h rs₁ ks) c (added (Ok d) (lent t e h rs₁ ks))
     pairing_end z =
         let k = length-drop i (way tail l) in
         let n = way-length tail l in
@@ -112,13 +101,14 @@ module _ (t e h ks l r : List ℕ) (tail : Bool) where
           let q = way-length tail r in
           rw (x, y, drop_head (way tail l) i (omega arith), drop_head (way tail r) i (omega arith))
 
-      module _ (rs₂ : List ℕ) (z : Answered) (w : Working (explain_pair a b) (lent t e h rs₁ ks) (lent t e h rs₂ ks) d (added z (lent t e h rs₂ ks))) where
-        pub pairing_refused : (k : ℕ) → z ≡ adding.Refused k → Working (nf_explain (way tail l) (way tail r)) (lent t e h rs ks) (lent t e h rs₂ ks) c (added (adding.Refused k) (lent t e h rs₂ ks))
-        pairing_refused = turning_refused t e h ks left g (explain_pair a b) next rs₂ z w
+      module _ (rs₂ : List ℕ) where
+        pub pairing_refused : (k : Refusal) → Working (explain_pair a b) (lent t e h rs₁ ks) (lent t e h rs₂ ks) d (added (Err k) (lent t e h rs₂ ks))
+            → Working (nf_explain (way tail l) (way tail r)) (lent t e h rs ks) (lent t e h rs₂ ks) c (added (Err k) (lent t e h rs₂ ks))
+        pairing_refused k w = turning_refused t e h ks left g (explain_pair a b) next rs₂ k w
 
-        pub pairing_turn : (d₂ : State) → z ≡ adding.Counts d₂ → Pairing c rs d₂ rs₂ (i + 1)
-        pairing_turn d₂ j =
-            turning_on t e h ks left g (explain_pair a b) next rs₂ z w d₂ j ((pair_ends a b (now rs₁ d) g.going.ready.audited pairing_pair.one pairing_pair.other).given (now rs₂ d₂) tt)
+        pub pairing_turn : (d₂ : State) → Working (explain_pair a b) (lent t e h rs₁ ks) (lent t e h rs₂ ks) d (added (Ok d₂) (lent t e h rs₂ ks)) → Pairing c rs d₂ rs₂ (i + 1)
+        pairing_turn d₂ w =
+            turning_on t e h ks left g (explain_pair a b) next rs₂ d₂ w ((pair_ends a b (now rs₁ d) g.going.ready.audited pairing_pair.one pairing_pair.other).given (now rs₂ d₂) tt)
 
 -- from the fronts on
 pub front-pairs : (l r : List ℕ) {m m' : Lent} {c : State} {o : Out (Unit {0})} → Working (nf_explain (way false l) (way false r)) m m' c o → Working (nf_explain l r) m m' c o

@@ -1,58 +1,23 @@
--- The constants of a side, and their characters counted.
+-- The characters of a side's constants, counted.
 use Rattle.std.specs.Prelude.{if◌then◌else◌}
 use mathlib.Core.Path.{◌≡◌, sym, ap, ◌∙◌, refl}
-use mathlib.Core.Bool.{Bool, true, false, not, ◌&&◌}
+use mathlib.Core.Bool.{Bool, true, false, ◌&&◌}
 use mathlib.Core.List.{List, [], ◌++◌, ◌∷◌}
-use Prim.Native.Nat.{ℕ, suc, ◌+◌, ◌-◌, ◌<◌, ◌≤◌}
+use Prim.Native.Nat.{ℕ, suc, ◌+◌, ◌<◌, ◌≤◌}
 use native.Mathlib.Omega.{arith}
-use lib.ListN.{length, get_or, take, drop, length-append, length-take, length-drop, drop_of_length-le}
-use lib.Seq.{drop-cons, take_all}
+use lib.ListN.{length, get_or, drop, length-append, length-take, length-drop, drop_of_length-le}
+use lib.Seq.{drop-cons}
 use lib.Dec.{ltb}
 use borrow.Author.Tests.{eq-eqb, ne_eqb}
 use Rattle.records.specs.declared.State.{State}
 use Rattle.records.specs.Lists.{concat_map}
 use Rattle.records.specs.Store.{Store, Term, text_in, kind, term, is_constant, text}
 use Rattle.records.specs.View.{char_limit, term_at, read_in, termed}
-use Rattle.records.proofs.Lists.{and-stop, and-next, table-length, failed, passed}
+use Rattle.records.proofs.Lists.{table-length}
 use Rattle.records.proofs.Views.{term-there}
 use Rattle.records.proofs.Loops.{Summing, summing_turn}
-use Rattle.sides.specs.Wordeq.{fixed, letters_of, letters, is_full, short}
-use Rattle.sides.specs.Working.Sides.{Texts, which_fixed, picked, fill_count}
-
--- THE CONSTANT SIDE
-
-pub whole_part : (l : List ℕ) → take (length l - 0) (drop 0 l) ≡ l
-whole_part l = let e : length l - 0 ≡ length l = omega arith in rw e (take_all (length l) l (omega arith))
-
-module _ (s : Store) (l r : List ℕ) (x : Bool) (e : x ≡ fixed s l) where
-  pub which_left : x ≡ true → 1 ≡ which_fixed s l r
-  unfolding which_fixed
-  which_left t = rw (sym e ∙ t)
-
-  module _ (f : x ≡ false) (y : Bool) (d : y ≡ fixed s r) where
-    pub which_right : y ≡ true → 2 ≡ which_fixed s l r
-    unfolding which_fixed
-    which_right t = rw (sym e ∙ f, sym d ∙ t)
-
-    pub which_none : y ≡ false → 0 ≡ which_fixed s l r
-    unfolding which_fixed
-    which_none t = rw (sym e ∙ f, sym d ∙ t)
-
-module _ (w : ℕ) (l r : List ℕ) where
-  pub pick_first : w ≡ 1 → take (length l - 0) (drop 0 l) ≡ picked w l r
-  unfolding picked
-  pick_first e = rw (eq-eqb w 1 e) (whole_part l)
-
-  module _ (d : w ≡ 1 → ⊥) where
-    pub pick_second : w ≡ 2 → take (length r - 0) (drop 0 r) ≡ picked w l r
-    unfolding picked
-    pick_second e = rw (ne_eqb w 1 d, eq-eqb w 2 e) (whole_part r)
-
-    pub pick_none : (w ≡ 2 → ⊥) → take 0 (drop 0 l) ≡ picked w l r
-    unfolding picked
-    pick_none f = rw (ne_eqb w 1 d, ne_eqb w 2 f)
-
--- COUNTED
+use Rattle.sides.specs.Wordeq.{letters_of, letters, is_full}
+use Rattle.sides.specs.Working.Sides.{Texts, fill_count}
 
 module _ (l h : List ℕ) (c : State) where
   -- a text within the count has its whole length
@@ -129,14 +94,3 @@ pub counted-one : (w : List ℕ) (c : State) (l : List ℕ) (total i n : ℕ) �
 counted-one w c l total i n x s q e =
     summing_turn (letter_count (termed w c)) char_limit l total i s (λ t. length (letters_of (termed w c) t)) (letters-cons (termed w c)) n q e
     (let b = count-limit w [] c (get_or l i 0) in let d = x.limited in omega arith)
-
--- SHORT
-
-pub short-not : (s : Store) (l r : List ℕ) (x : Bool) → x ≡ fixed s l → not x ≡ true → false ≡ short s l r
-unfolding short
-short-not s l r x e h = and-stop _ _ (failed _ x e h)
-
-module _ (s : Store) (l r : List ℕ) (x : Bool) (e : x ≡ fixed s l) (h : not x ≡ false) (m n : ℕ) (p : m ≡ length (letters s l)) (q : n ≡ length (letters s r)) where
-  pub short-is : (b : Bool) → b ≡ ltb m n → b ≡ short s l r
-  unfolding short
-  short-is b d = and-next _ _ b (passed _ x e h) (d ∙ (rw (p, q)))

@@ -2,19 +2,19 @@
 use mathlib.Core.Path.{◌≡◌, refl, sym, ap, ◌∙◌}
 use mathlib.Core.Bool.{Bool, true, false, not, ◌&&◌, ◌||◌}
 use mathlib.Core.List.{List, [], ◌∷◌, ◌++◌}
-use Prim.Native.Nat.{ℕ, suc, ◌+◌, ◌-◌, ◌<◌, ◌≤◌}
+use Prim.Native.Nat.{ℕ, suc, ◌+◌, ◌-◌, ◌<◌, ◌≤◌, min}
 use native.Mathlib.Numerals.{add-one}
 use native.Mathlib.Omega.{arith}
 use lib.ListN.{length, get_or, take, drop, length-take, drop_of_length-le}
 use lib.Seq.{drop-cons, take-append_seam}
-use lib.Dec.{eqb}
-use borrow.Author.Tests.{eqb-true, eq-eqb, ne_eqb}
+use lib.Dec.{eqb, leb}
+use borrow.Author.Tests.{eqb-true, eq-eqb, ne_eqb, leb-true, leb-false}
 use Rattle.records.specs.declared.State.{State}
 use Rattle.records.specs.Lists.{table, same_word}
 use Rattle.records.specs.Store.{Term, kind, term, is_constant, text}
 use Rattle.records.specs.View.{span, read_in, termed, term_at}
 use Rattle.records.specs.Make.{strk}
-use Rattle.records.proofs.Lists.{and-stop, and-next, both_left, both_right, both_true, failed, table_at_lem, table-length, table_add, word-differs}
+use Rattle.records.proofs.Lists.{decide, and-stop, and-next, both_left, both_right, both_true, table_at_lem, table-length, table_add, word-differs}
 use Rattle.records.proofs.Views.{term-there, text-words}
 use Rattle.sides.specs.Wordeq.{is_plain, differ}
 use Rattle.sides.specs.Working.Sides.{Spelled}
@@ -39,19 +39,19 @@ module _ (h : List ℕ) (p n q m : ℕ) where
     pub other : j ≤ m
     pub rest : differ (drop j (span h p n)) (drop j (span h q m)) ≡ differ (span h p n) (span h q m)
 
-  pub alike_none : Alike 0
-  alike_none = record { one = omega arith; other = omega arith; rest = refl }
-
-  pub alike_short : (j : ℕ) → Alike j → m ≤ j → false ≡ differ (span h p n) (span h q m)
+  alike_short : (j : ℕ) → Alike j → m ≤ j → false ≡ differ (span h p n) (span h q m)
   alike_short j a l =
       let e = other-size in
       sym (differ-none (drop j (span h p n))) ∙ ap (differ (drop j (span h p n))) (sym (drop_of_length-le (span h q m) (let z : length (span h q m) ≤ j = omega arith in z))) ∙ a.rest
 
-  pub alike_all : (j : ℕ) → Alike j → n ≤ j → false ≡ differ (span h p n) (span h q m)
+  alike_all : (j : ℕ) → Alike j → n ≤ j → false ≡ differ (span h p n) (span h q m)
   unfolding differ
   alike_all j a l =
       let e = span-size in
       ap (λ (z : List ℕ). differ z (drop j (span h q m))) (sym (drop_of_length-le (span h p n) (let z : length (span h p n) ≤ j = omega arith in z))) ∙ a.rest
+
+  pub alike_done : (j : ℕ) → Alike j → min n m ≤ j → false ≡ differ (span h p n) (span h q m)
+  alike_done j a l = decide (leb n j) (λ z. alike_all j a (leb-true n j z)) (λ z. alike_short j a (let y = leb-false n j z in omega arith))
 
   module _ (j : ℕ) (a : Alike j) (l : j < n) (k : j < m) where
     alike_at_lem : differ (span h p n) (span h q m) ≡ (not (eqb (get_or h (p + j) 0) (get_or h (q + j) 0)) || differ (drop (suc j) (span h p n)) (drop (suc j) (span h q m)))
@@ -102,10 +102,6 @@ module _ (w h : List ℕ) (c : State) (a b : ℕ) (x : Spelled w h c) (y : (is_c
   pub differ-is : (p n q m : ℕ) (r : Bool) → p ≡ (term_at w a).first → n ≡ (term_at w a).second → q ≡ (term_at w b).first → m ≡ (term_at w b).second
       → r ≡ differ (span h p n) (span h q m) → r ≡ (is_constant (read_in w h c) a && is_constant (read_in w h c) b && differ (text (read_in w h c) a) (text (read_in w h c) b))
   differ-is p n q m r e f g i d = and-next _ _ r y (d ∙ (rw (e, f, g, i, one-text, other_text)))
-
-pub differ-not : (w h : List ℕ) (c : State) (a b : ℕ) (x : Bool) → x ≡ (is_constant (termed w c) a && is_constant (termed w c) b) → not x ≡ true
-    → false ≡ (is_constant (read_in w h c) a && is_constant (read_in w h c) b && differ (text (read_in w h c) a) (text (read_in w h c) b))
-differ-not w h c a b x e n = and-stop _ _ (failed _ x e n)
 
 -- PLAIN VARIABLES
 

@@ -1,13 +1,13 @@
 -- Two constant sides compared: the walk of one over the other.
 use mathlib.Core.Path.{◌≡◌, refl, sym, ap, ◌∙◌}
-use mathlib.Core.Bool.{Bool, true, false, not}
+use mathlib.Core.Bool.{Bool, true, not}
 use mathlib.Core.List.{List, [], ◌∷◌}
 use Prim.Native.Nat.{ℕ}
 use Rattle.records.specs.View.{read_in, termed}
 use Rattle.records.specs.declared.State.{State}
 use Rattle.records.specs.Lists.{all, concat_map, same_word}
 use Rattle.records.specs.Store.{Store, is_constant}
-use Rattle.records.proofs.Lists.{both_left, both_right, left_false, right-false, failed, passed, word_is, word_same, same_test}
+use Rattle.records.proofs.Lists.{both_left, both_right, word_is, word_same, same_test}
 use Rattle.sides.specs.Wordeq.{fixed, letters_of, letters, unequal, filled}
 
 -- a side of constants has no place to fill
@@ -19,26 +19,12 @@ filled-fixed s u (a ∷ l) e =
     let q = filled-fixed s u l (both_right (is_constant s a) (all (is_constant s) l) e) in
     rw (p, q)
 
-fixed-here : (w h : List ℕ) (c : State) (k : List ℕ) → fixed (read_in w h c) k ≡ fixed (termed w c) k
-unfolding fixed
-fixed-here w h c k = refl
-
 word_flip : (v w : List ℕ) → same_word v w ≡ same_word w v
 word_flip v w = same_test _ _ (λ e. word_same w v (sym (word_is v w e))) (λ e. word_same v w (sym (word_is w v e)))
 
-module _ (w h : List ℕ) (c : State) (l r : List ℕ) (x : Bool) (e : x ≡ fixed (termed w c) l) where
-  pub unequal-left : not x ≡ true → false ≡ unequal (read_in w h c) l r
-  unfolding unequal fixed
-  unequal-left n = sym (left_false _ _ (left_false _ _ (failed _ x e n)))
-
-  module _ (f : not x ≡ false) (y : Bool) (d : y ≡ fixed (termed w c) r) where
-    pub unequal-right : not y ≡ true → false ≡ unequal (read_in w h c) l r
-    unfolding unequal fixed
-    unequal-right n = sym (left_false _ _ (right-false (fixed (read_in w h c) l) _ (failed _ y d n)))
-
-    pub unequal-is : not y ≡ false → (u : List ℕ) (b : Bool) → b ≡ same_word (filled (read_in w h c) u r) (letters (read_in w h c) l) → not b ≡ unequal (read_in w h c) l r
-    unfolding unequal
-    unequal-is n u b g =
-        let p : fixed (read_in w h c) l ≡ true = fixed-here w h c l ∙ passed _ x e f in
-        let q : fixed (read_in w h c) r ≡ true = fixed-here w h c r ∙ passed _ y d n in
-        rw (p, q) (ap not (g ∙ ap (λ (z : List ℕ). same_word z (letters (read_in w h c) l)) (filled-fixed (read_in w h c) u r q) ∙ word_flip (letters (read_in w h c) r) (letters (read_in w h c) l)))
+-- sides of constants are unequal where the walk of the one over the other does not end with both
+pub unequal-is : (w h : List ℕ) (c : State) (l r : List ℕ) → fixed (termed w c) l ≡ true → fixed (termed w c) r ≡ true → (u : List ℕ) (b : Bool)
+    → b ≡ same_word (filled (read_in w h c) u r) (letters (read_in w h c) l) → not b ≡ unequal (read_in w h c) l r
+unfolding unequal fixed
+unequal-is w h c l r p q u b g =
+    rw (p, q) (ap not (g ∙ ap (λ (z : List ℕ). same_word z (letters (read_in w h c) l)) (filled-fixed (read_in w h c) u r q) ∙ word_flip (letters (read_in w h c) r) (letters (read_in w h c) l)))

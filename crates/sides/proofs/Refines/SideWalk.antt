@@ -2,6 +2,7 @@
 use mathlib.Core.Path.{◌≡◌, refl, sym, ap, ◌∙◌}
 use mathlib.Core.Bool.{Bool, false}
 use mathlib.Core.List.{List, [], ◌∷◌, ◌++◌}
+use mathlib.Core.Logic.{◌⊎◌, ⊎_elim}
 use Prim.Native.Nat.{ℕ, suc, ◌+◌, ◌-◌, ◌<◌, ◌≤◌}
 use native.Mathlib.Numerals.{add-one}
 use native.Mathlib.Omega.{arith}
@@ -31,21 +32,25 @@ count_same w h c a x =
 
 -- MOVED ON
 
+drop-none : (j : ℕ) → ◌≡◌ {A = List ℕ} (drop j []) []
+drop-none j = drop_of_length-le [] {i = j} (omega arith)
+
+pub rest_end : (s : Store) (l : List ℕ) (i j : ℕ) → length l ≤ i → rest s l i j ≡ []
+rest_end s l i j q = ap (drop j) (letters-end s l i q) ∙ drop-none j
+
 -- from character j of atom i on the same is left as from j₀ of i₀ on
 pub record Onward (w : List ℕ) (c : State) (l : List ℕ) (i₀ j₀ i j : ℕ) : Type 0 where
   pub same : (h : List ℕ) → rest (read_in w h c) l i j ≡ rest (read_in w h c) l i₀ j₀
 
-pub onward-none : (w : List ℕ) (c : State) (l : List ℕ) (i j : ℕ) → Onward w c l i j i j
-onward-none w c l i j = record { same = λ h. refl }
-
 module _ (w : List ℕ) (c : State) (l : List ℕ) (k : Cursor) (i j : ℕ) (a : Onward w c l k.atom k.place i j) where
-  pub onward-end : length l ≤ i → Settled w c l k (record { atom = i; place = j })
-  onward-end q = record { same = a.same; at = record { there = λ z. absurd (omega arith) } }
+  pub onward-end : length l ≤ i → Settled w c l k (record { atom = length l; place = j })
+  onward-end q =
+      record {
+        same = λ h. rest_end (read_in w h c) l (length l) j (omega arith) ∙ sym (rest_end (read_in w h c) l i j q) ∙ a.same h;
+        at = record { there = λ z. absurd (omega arith) };
+      }
 
   module _ (n : ℕ) (e : n ≡ length (letters_of (termed w c) (get_or l i 0))) where
-    pub onward-here : j < n → Settled w c l k (record { atom = i; place = j })
-    onward-here q = record { same = a.same; at = record { there = λ z. omega arith } }
-
     pub onward-atom : Texts w c → i < length l → n ≤ j → Onward w c l k.atom k.place (i + 1) (j - n)
     onward-atom x q m = record { same = λ h. rw add-one (sym (skip h) ∙ a.same h) }
       where
@@ -121,12 +126,6 @@ letter-is w h c l k f p r x t q e g d =
 
 -- COMPARED
 
-drop-none : (j : ℕ) → ◌≡◌ {A = List ℕ} (drop j []) []
-drop-none j = drop_of_length-le [] {i = j} (omega arith)
-
-pub rest_end : (s : Store) (l : List ℕ) (i j : ℕ) → length l ≤ i → rest s l i j ≡ []
-rest_end s l i j q = ap (drop j) (letters-end s l i q) ∙ drop-none j
-
 pub heads-left : (s : Store) (l v : List ℕ) (i j : ℕ) → length l ≤ i → false ≡ heads_agree (rest s l i j) v
 unfolding heads_agree
 heads-left s l v i j q = sym (ap (λ (z : List ℕ). heads_agree z v) (rest_end s l i j q))
@@ -138,6 +137,12 @@ heads-right s l v i j q = sym (ap (heads_agree v) (rest_end s l i j q) ∙ none 
     none : (v : List ℕ) → heads_agree v [] ≡ false
     none [] = refl
     none (x ∷ v) = refl
+
+-- one of them has ended
+pub heads-end : (s : Store) (l r : List ℕ) (k x : Cursor) → (k.atom < length l × length r ≤ x.atom) ⊎ (length l ≤ k.atom)
+    → false ≡ heads_agree (rest s l k.atom k.place) (rest s r x.atom x.place)
+heads-end s l r k x =
+    ⊎_elim (λ z. heads-right s r (rest s l k.atom k.place) x.atom x.place z.1) (λ z. heads-left s l (rest s r x.atom x.place) k.atom k.place z)
 
 pub heads-both : (u v u' v' : List ℕ) (x y : ℕ) (b : Bool) → u ≡ x ∷ u' → v ≡ y ∷ v' → b ≡ eqb x y → b ≡ heads_agree u v
 unfolding heads_agree

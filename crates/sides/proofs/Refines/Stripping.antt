@@ -8,9 +8,10 @@ use native.Mathlib.Omega.{arith}
 use lib.ListN.{length, take, drop, get_or, length-drop, length-reverse, drop_of_length-le}
 use lib.Seq.{take_all, drop-cons, drop-drop}
 use lib.Dec.{eqb}
-use borrow.Author.Tests.{not-true, not-false, eq-eqb, ne_eqb}
+use borrow.Author.Tests.{not-true, not-false, ne_eqb}
 use Rattle.records.specs.declared.State.{State}
-use Rattle.records.specs.declared.Added.TheVariants as adding
+use Rattle.std.specs.Prelude.{Result, Ok, Err}
+use Rattle.records.specs.declared.refusal.Refusal.{Refusal}
 use Rattle.records.specs.Lists.{all, any}
 use Rattle.records.specs.Store.{Store, Out, ok, and_then, give, is_constant, is_string}
 use Rattle.records.specs.View.{Lent, lent, store_of, read_in}
@@ -18,41 +19,30 @@ use Rattle.records.specs.Working.Audited.{Ready}
 use Rattle.records.specs.Calls.{added}
 use Rattle.records.specs.Working.Doing.{Working}
 use Rattle.records.proofs.IndexStores.{keeps-terms}
-use Rattle.records.proofs.Lists.{both_true, decide, all_every, every_at, all_take, all_drop, any_append, or_left, clash, drop_head}
+use Rattle.records.proofs.Lists.{both_true, decide, all_every, every_at, all_take, all_drop, any_append, or_left, drop_head}
 use Rattle.records.proofs.Doing.{working_stopped, working_at, working_is, working_answer}
 use Rattle.records.proofs.Works.{one_store}
-use Rattle.records.proofs.Sequence.{added-at, added-ready}
-use Rattle.engine.specs.Explain.{explain_arguments, is_reasoned}
+use Rattle.engine.specs.Explain.{explain_arguments}
 use Rattle.sides.specs.declared.Rest.{Rest}
-use Rattle.sides.specs.declared.Stripped.TheVariants.{Parts, Refused}
-use Rattle.sides.specs.Wordeq.{same, same_heads, same_tails, matches, inner, rest, explain_matches, needs_reason, is_bare, strip, nf_equal, nf_explain}
+use Rattle.sides.specs.Wordeq.{same, same_heads, same_tails, matches, inner, rest, explain_matches, needs_reason, strip, nf_equal, nf_explain}
 use Rattle.sides.specs.Working.Stripping.{Pair, way, part, Finds, Strips, Needs, Asked}
 use Rattle.sides.proofs.FrontOrEnd.{way-front, way_back, way-length, way_twice, way_every, way-all, way-take, way-drop}
 use Rattle.sides.proofs.Strip.{plainly, same_class_lem, matches-append, off_heads, Match}
 use Rattle.sides.proofs.Equal.{pairs_match, equal-lengths, equal-heads, heads-all, heads-alone, alone-equal, explain-equal-gives}
 use Rattle.sides.proofs.Refines.AddingReasons.{Going, going_none, going_strings, going_same, kept_down}
-use Rattle.records.specs.declared.Added.{Added as Answered}
 
 -- what is the same is read in the terms and the characters
 pub same_read : (t e h ks rs : List ℕ) (c : State) (a b : ℕ) → same (store_of (lent t e h rs ks) c) a b ≡ same (read_in t h c) a b
 unfolding same
 same_read t e h ks rs c a b = refl
 
--- ONE MATCH THAT NEEDS A REASON OR NONE
+-- ONE MATCH THAT MAY NEED A REASON
 
 module _ (t e h r ks : List ℕ) (c : State) (a b : ℕ) where
   abbrev s : Store
   s = store_of (lent t e h r ks) c
 
-  pub need_number : a ≡ b → false ≡ needs_reason s (a, b)
-  unfolding needs_reason
-  need_number i = rw (eq-eqb a b i)
-
   module _ (d : a ≡ b → ⊥) (x : Bool) (i : x ≡ (is_constant s a && is_constant s b)) where
-    pub need_constants : x ≡ true → false ≡ needs_reason s (a, b)
-    unfolding needs_reason
-    need_constants j = rw (ne_eqb a b d, sym i ∙ j)
-
     module _ (j : x ≡ false) where
       apart : plainly s a b ≡ false
       apart = rw (ne_eqb a b d, sym i ∙ j)
@@ -60,19 +50,11 @@ module _ (t e h r ks : List ℕ) (c : State) (a b : ℕ) where
       pub need_arguments : Pair (read_in t h c) a b → same (read_in t h c) a b ≡ true → explain_arguments a b s ≡ true
       need_arguments p k = both_true _ _ (both_true _ _ p.one p.other) (same_class_lem s a b (same_read t e h ks r c a b ∙ k) apart)
 
-      pub need_reasoned : (y : Bool) → y ≡ is_reasoned s a b → y ≡ needs_reason s (a, b)
-      unfolding needs_reason
-      need_reasoned y e = rw (ne_eqb a b d, sym i ∙ j) e
-
 -- PARTS
 
 module _ (l : List ℕ) where
   pub part-whole : (i : ℕ) → part l i (length l) ≡ drop i l
   part-whole i = take_all (length l - i) (drop i l) (rw (length-drop i l) (omega arith))
-
-  -- the part up to place i
-  part-front : (i : ℕ) → way false (part l 0 i) ≡ take i l
-  part-front i = let z : i - 0 ≡ i = omega arith in way-front (part l 0 i) ∙ ap (λ (x : ℕ). take x l) z
 
   -- the last n, from the end on, are the first n from the end on of the part from place f on
   part-back : (f n e : ℕ) → f + n ≤ length l → e ≡ length l - n → way true (part l e (length l)) ≡ take n (way true (drop f l))
@@ -167,20 +149,18 @@ module _ (s : Store) (l r : List ℕ) (tail : Bool) where
   pub record Counted (i : ℕ) : Type 0 where
     pub sum : i + length (same_heads s (drop i (way tail l)) (drop i (way tail r))) ≡ length (same_heads s (way tail l) (way tail r))
 
-  pub counted_none : Counted 0
-  counted_none = record { sum = omega arith }
-
   module _ (n : ℕ) (z : n ≡ min (length l) (length r)) {i : ℕ} (k : Counted i) where
     least : n ≡ min (length (way tail l)) (length (way tail r))
     least = rw (way-length tail l, way-length tail r) z
 
-    pub count_all : n ≤ i → i ≡ length (same_heads s (way tail l) (way tail r))
+    pub count_all : n ≤ i → n ≡ length (same_heads s (way tail l) (way tail r))
     count_all q =
         let m = least in
         let a = length-drop i (way tail l) in
         let b = length-drop i (way tail r) in
         let e = ap length (heads-none s (drop i (way tail l)) (drop i (way tail r)) (omega arith)) in
         let j = k.sum in
+        let h = heads-short s (way tail l) (way tail r) in
         omega arith
 
     module _ (h : i < n) {a b : ℕ} (p : a ≡ get_or (way tail l) i 0) (q : b ≡ get_or (way tail r) i 0) (x : Bool) (f : x ≡ same s a b) where
@@ -232,9 +212,6 @@ module _ (m : Lent) (c : State) (s : Store) (l r : List ℕ) (tail : Bool) (h : 
   all-pairs : length pairs ≡ length l
   all-pairs = equal-heads s (way tail l) (way tail r) h ∙ way-length tail l
 
-  pub needing_none : Needing m c pairs 0
-  needing_none = record { is = refl }
-
   pub needing_end : {i : ℕ} → Needing m c pairs i → length l ≤ i → Needs m c pairs false
   unfolding any
   needing_end {i} g z = record { is = rw (drop_of_length-le pairs {i = i} (let k = all-pairs in omega arith)) at g.is }
@@ -279,9 +256,9 @@ through s x y n e = rw e (record { equal = alone-equal s x y; pairs = heads-alon
 pub through-length : {s : Store} (tail : Bool) (l r : List ℕ) {ps : List (ℕ × ℕ)} → Throughout s (way tail l) (way tail r) ps → length l ≡ length r
 through-length {s} tail l r p = sym (way-length tail l) ∙ equal-lengths s (way tail l) (way tail r) p.equal ∙ way-length tail r
 
--- a part of a list of string terms
-pub part-strings : (p : ℕ → Bool) (l : List ℕ) (i e : ℕ) → all p l ≡ true → all p (part l i e) ≡ true
-part-strings p l i e h = all_take p (e - i) (drop i l) (all_drop p i l h)
+-- what is left of a list of string terms from a place on
+pub part-strings : (p : ℕ → Bool) (l : List ℕ) (i : ℕ) → all p l ≡ true → all p (part l i (length l)) ≡ true
+part-strings p l i h = all_take p (length l - i) (drop i l) (all_drop p i l h)
 
 module _ (l r : List ℕ) where
   pub heads-least : (s : Store) (n : ℕ) → n ≡ length (same_heads s (way false l) (way false r)) → (n ≤ length l) × (n ≤ length r)
@@ -318,8 +295,8 @@ module _ (l r : List ℕ) where
       places q = rw (q, p)
 
   module _ {s : Store} (x : Rest) (f : Finds s l r x) where
-    pub heads_through : Throughout s (way false (part l 0 x.from)) (way false (part r 0 x.from)) (same_heads s l r)
-    heads_through = rw (part-front l x.from, part-front r x.from) (through s l r x.from f.heads)
+    pub heads_through : Throughout s (way false (take x.from l)) (way false (take x.from r)) (same_heads s l r)
+    heads_through = rw (way-front (take x.from l), way-front (take x.from r)) (through s l r x.from f.heads)
 
     pub tails_through : Throughout s (way true (part l x.lhs (length l))) (way true (part r x.rhs (length r))) (same_tails s x.from l r)
     unfolding same_tails
@@ -332,9 +309,8 @@ module _ (l r : List ℕ) where
 
 -- HEADS, THEN TAILS
 
-module _ (t e h ks l r : List ℕ) {c : State} {rs rs₁ : List ℕ} (x : Rest) (f : Finds (read_in t h c) l r x) (ready : Ready (lent t e h rs ks) c) (strings : all (is_string (read_in t h c)) l ≡ true)
-    (others : all (is_string (read_in t h c)) r ≡ true) (y : Answered)
-    (w : Working (nf_explain (way false (part l 0 x.from)) (way false (part r 0 x.from))) (lent t e h rs ks) (lent t e h rs₁ ks) c (added y (lent t e h rs₁ ks))) where
+module _ (t e h ks l r : List ℕ) {c : State} {rs : List ℕ} (x : Rest) (f : Finds (read_in t h c) l r x) (ready : Ready (lent t e h rs ks) c) (strings : all (is_string (read_in t h c)) l ≡ true)
+    (others : all (is_string (read_in t h c)) r ≡ true) where
   abbrev heads : List (ℕ × ℕ)
   heads = same_heads (read_in t h c) l r
 
@@ -342,56 +318,55 @@ module _ (t e h ks l r : List ℕ) {c : State} {rs rs₁ : List ℕ} (x : Rest) 
   tails = same_tails (read_in t h c) x.from l r
 
   -- the pairs of two parts, explained as matches
-  said : (tail : Bool) (i k : ℕ) (j n : ℕ) {ps : List (ℕ × ℕ)} → Throughout (read_in t h c) (way tail (part l i k)) (way tail (part r j n)) ps
-      → {d : State} {rs' : List ℕ} → Going t e h ks c rs d rs'
-      → explain_matches ps (store_of (lent t e h rs' ks) d) ≡ nf_explain (way tail (part l i k)) (way tail (part r j n)) (store_of (lent t e h rs' ks) d)
-  said tail i k j n p {d} {rs'} g =
-      ap (λ (m : List (ℕ × ℕ)). explain_matches m (store_of (lent t e h rs' ks) d)) (sym p.pairs)
-      ∙ pairs_match (read_in t h c) (way tail (part l i k)) (way tail (part r j n)) p.equal (store_of (lent t e h rs' ks) d) (going_same t e h ks g) g.ready.audited
-      (way_every tail (all_every _ _ (going_strings t e h ks g (part l i k) (part-strings _ l i k strings))))
-      (way_every tail (all_every _ _ (going_strings t e h ks g (part r j n) (part-strings _ r j n others))))
+  said : (tail : Bool) (p q : List ℕ) → all (is_string (read_in t h c)) p ≡ true → all (is_string (read_in t h c)) q ≡ true → {ps : List (ℕ × ℕ)}
+      → Throughout (read_in t h c) (way tail p) (way tail q) ps → {d : State} {rs' : List ℕ} → Going t e h ks c rs d rs'
+      → explain_matches ps (store_of (lent t e h rs' ks) d) ≡ nf_explain (way tail p) (way tail q) (store_of (lent t e h rs' ks) d)
+  said tail p q u v z {d} {rs'} g =
+      ap (λ (m : List (ℕ × ℕ)). explain_matches m (store_of (lent t e h rs' ks) d)) (sym z.pairs)
+      ∙ pairs_match (read_in t h c) (way tail p) (way tail q) z.equal (store_of (lent t e h rs' ks) d) (going_same t e h ks g) g.ready.audited
+      (way_every tail (all_every _ _ (going_strings t e h ks g p u)))
+      (way_every tail (all_every _ _ (going_strings t e h ks g q v)))
 
   -- heads and then tails
-  both-said : {o : Out (Unit {0})} → nf_explain (way false (part l 0 x.from)) (way false (part r 0 x.from)) (store_of (lent t e h rs ks) c) ≡ o
+  both-said : {o : Out (Unit {0})} → nf_explain (way false (take x.from l)) (way false (take x.from r)) (store_of (lent t e h rs ks) c) ≡ o
       → explain_matches (matches (read_in t h c) l r) (store_of (lent t e h rs ks) c) ≡ and_then (λ (u : Unit {0}). explain_matches tails) o
   both-said {o} q =
       ap (λ (n : ℕ). explain_matches (heads ++ same_tails (read_in t h c) n l r) (store_of (lent t e h rs ks) c)) (sym f.heads)
       ∙ matches-append heads tails (store_of (lent t e h rs ks) c)
-      ∙ ap (and_then (λ (u : Unit {0}). explain_matches tails)) (said false 0 x.from 0 x.from (heads_through l r x f) (going_none t e h ks ready) ∙ q)
+      ∙ ap (and_then (λ (u : Unit {0}). explain_matches tails)) (said false (take x.from l) (take x.from r) (all_take _ x.from l strings) (all_take _ x.from r others) (heads_through l r x f) (going_none t e h ks ready) ∙ q)
 
-  pub both-refused : (k : ℕ) → y ≡ adding.Refused k → Working (explain_matches (matches (read_in t h c) l r)) (lent t e h rs ks) (lent t e h rs₁ ks) c (added (adding.Refused k) (lent t e h rs₁ ks))
-  both-refused k j = working_stopped (both-said (added-at j w).says) w.kept
+  abbrev first : State → Out (Unit {0}) → List ℕ → Type 0
+  first d o rs₁ = Working (nf_explain (way false (take x.from l)) (way false (take x.from r))) (lent t e h rs ks) (lent t e h rs₁ ks) d o
 
-  module _ (d : State) (j : y ≡ adding.Counts d) where
-    pub heads-going : Going t e h ks c rs d rs₁
-    heads-going = record {
-      ready = added-ready j w;
-      added =
-          (explain-equal-gives (way false (part l 0 x.from)) (way false (part r 0 x.from)) (store_of (lent t e h rs ks) c) ready.audited
-          (way-all _ false _ (part-strings _ l 0 x.from strings)) (way-all _ false _ (part-strings _ r 0 x.from others)) (store_of (lent t e h rs₁ ks) d) tt (added-at j w).says).added;
-      kept = w.kept.store;
-    }
+  module _ (rs₁ : List ℕ) where
+    pub both-refused : (k : Refusal) → first c (added (Err k) (lent t e h rs₁ ks)) rs₁
+        → Working (explain_matches (matches (read_in t h c) l r)) (lent t e h rs ks) (lent t e h rs₁ ks) c (added (Err k) (lent t e h rs₁ ks))
+    both-refused k w = working_stopped (both-said w.says) w.kept
 
-    pub both-explained : (rs₂ : List ℕ) (o : Answered)
-        → Working (nf_explain (way true (part l x.lhs (length l))) (way true (part r x.rhs (length r)))) (lent t e h rs₁ ks) (lent t e h rs₂ ks) d (added o (lent t e h rs₂ ks))
-        → Working (explain_matches (matches (read_in t h c) l r)) (lent t e h rs ks) (lent t e h rs₂ ks) c (added o (lent t e h rs₂ ks))
-    both-explained rs₂ o v = record {
-      says = both-said (added-at j w).says ∙ said true x.lhs (length l) x.rhs (length r) (tails_through l r x f) heads-going ∙ v.says;
-      kept = keeps-terms (kept_down t e h ks heads-going rs₂ v.kept.store) refl;
-      ready = v.ready;
-    }
+    module _ (d : State) (w : first c (added (Ok d) (lent t e h rs₁ ks)) rs₁) where
+      pub heads-going : Going t e h ks c rs d rs₁
+      heads-going = record {
+        ready = w.ready d tt refl;
+        added =
+            (explain-equal-gives (way false (take x.from l)) (way false (take x.from r)) (store_of (lent t e h rs ks) c) ready.audited
+            (way-all _ false _ (all_take _ x.from l strings)) (way-all _ false _ (all_take _ x.from r others)) (store_of (lent t e h rs₁ ks) d) tt w.says).added;
+        kept = w.kept.store;
+      }
+
+      pub both-explained : (rs₂ : List ℕ) (o : Result State Refusal)
+          → Working (nf_explain (way true (part l x.lhs (length l))) (way true (part r x.rhs (length r)))) (lent t e h rs₁ ks) (lent t e h rs₂ ks) d (added o (lent t e h rs₂ ks))
+          → Working (explain_matches (matches (read_in t h c) l r)) (lent t e h rs ks) (lent t e h rs₂ ks) c (added o (lent t e h rs₂ ks))
+      both-explained rs₂ o v = record {
+        says = both-said w.says ∙ said true (part l x.lhs (length l)) (part r x.rhs (length r)) (part-strings _ l x.lhs strings) (part-strings _ r x.rhs others) (tails_through l r x f) heads-going ∙ v.says;
+        kept = keeps-terms (kept_down t e h ks heads-going rs₂ v.kept.store) refl;
+        ready = v.ready;
+      }
 
 -- WHETHER A MATCH NEEDS A REASON
 
 module _ (t e h rs ks l r : List ℕ) (c : State) (x : Rest) (f : Finds (read_in t h c) l r x) where
   abbrev lent_now : Lent
   lent_now = lent t e h rs ks
-
-  pub asked-bare : x.lhs ≡ x.from → x.rhs ≡ x.from → Asked lent_now c l r x.from x.lhs x.rhs false
-  asked-bare i j = record { is = λ z. clash (bare (x.lhs - x.from) (x.rhs - x.from) (omega arith) (omega arith)) z }
-    where
-      bare : (m n : ℕ) → m ≡ 0 → n ≡ 0 → is_bare (take m (drop x.from l)) (take n (drop x.from r)) ≡ true
-      bare m n p q = rw (p, q)
 
   both_needed : (b : Bool) → b ≡ any (needs_reason (store_of lent_now c)) (same_heads (read_in t h c) l r ++ same_tails (read_in t h c) x.from l r)
       → Asked lent_now c l r x.from x.lhs x.rhs b
@@ -401,7 +376,7 @@ module _ (t e h rs ks l r : List ℕ) (c : State) (x : Rest) (f : Finds (read_in
         ∙ ap (any (needs_reason (store_of lent_now c))) (sym (matches-by (store_of lent_now c) (read_in t h c) (same_read t e h ks rs c) l r));
   }
 
-  module _ (b : Bool) (p : Needs lent_now c (same_heads (read_in t h c) (way false (part l 0 x.from)) (way false (part r 0 x.from))) b) where
+  module _ (b : Bool) (p : Needs lent_now c (same_heads (read_in t h c) (way false (take x.from l)) (way false (take x.from r))) b) where
     heads_need : b ≡ any (needs_reason (store_of lent_now c)) (same_heads (read_in t h c) l r)
     heads_need = p.is ∙ ap (any (needs_reason (store_of lent_now c))) (heads_through l r x f).pairs
 
@@ -417,24 +392,26 @@ module _ (t e h rs ks l r : List ℕ) (c : State) (x : Rest) (f : Finds (read_in
 
 -- STEP 1
 
-module _ (t e h ks l r : List ℕ) {c : State} {rs rs₁ : List ℕ} (x : Rest) (f : Finds (read_in t h c) l r x) (y : Answered)
-    (w : Working (explain_matches (matches (read_in t h c) l r)) (lent t e h rs ks) (lent t e h rs₁ ks) c (added y (lent t e h rs₁ ks))) where
+module _ (t e h ks l r : List ℕ) (c : State) (rs rs₁ : List ℕ) (x : Rest) (f : Finds (read_in t h c) l r x) where
   abbrev entry : Store
   entry = store_of (lent t e h rs ks) c
 
-  explained : {z : Answered} → y ≡ z → Working (explain_matches (matches entry l r)) (lent t e h rs ks) (lent t e h rs₁ ks) c (added z (lent t e h rs₁ ks))
-  explained j = working_is (ap (λ (m : List (ℕ × ℕ)). explain_matches m entry) (matches-by entry (read_in t h c) (same_read t e h ks rs c) l r)) (added-at j w)
+  abbrev given : Result State Refusal → Type 0
+  given y = Working (explain_matches (matches (read_in t h c) l r)) (lent t e h rs ks) (lent t e h rs₁ ks) c (added y (lent t e h rs₁ ks))
 
-  stripping : {z : Answered} → y ≡ z → Working (strip l r) (lent t e h rs ks) (lent t e h rs₁ ks) c (and_then (λ u. give (rest entry l r)) (added z (lent t e h rs₁ ks)))
+  explained : (y : Result State Refusal) → given y → Working (explain_matches (matches entry l r)) (lent t e h rs ks) (lent t e h rs₁ ks) c (added y (lent t e h rs₁ ks))
+  explained y w = working_is (ap (λ (m : List (ℕ × ℕ)). explain_matches m entry) (matches-by entry (read_in t h c) (same_read t e h ks rs c) l r)) w
+
+  stripping : (y : Result State Refusal) → given y → Working (strip l r) (lent t e h rs ks) (lent t e h rs₁ ks) c (and_then (λ u. give (rest entry l r)) (added y (lent t e h rs₁ ks)))
   unfolding strip
-  stripping j = working_is refl (working_answer (λ u. give (rest entry l r)) (λ u s s' x i. one_store i) (explained j))
+  stripping y w = working_is refl (working_answer (λ u. give (rest entry l r)) (λ u s s' x i. one_store i) (explained y w))
 
-  pub strip-refused : (k : ℕ) → y ≡ adding.Refused k → Strips (lent t e h rs ks) (lent t e h rs₁ ks) c l r (Refused k)
-  strip-refused k j = record { is = stripping j; inside = tt; needs = tt }
+  pub strip-refused : (k : Refusal) → given (Err k) → Strips (lent t e h rs ks) (lent t e h rs₁ ks) c l r (Err k)
+  strip-refused k w = record { is = stripping (Err k) w; inside = tt; needs = tt }
 
-  pub strip-parts : (d : State) → y ≡ adding.Counts d → (b : Bool) → Asked (lent t e h rs ks) c l r x.from x.lhs x.rhs b → Strips (lent t e h rs ks) (lent t e h rs₁ ks) c l r (Parts d x.from x.lhs x.rhs b)
-  strip-parts d j b a = record {
-    is = working_at (ap (ok (store_of (lent t e h rs₁ ks) d)) (rest-by entry (read_in t h c) (same_read t e h ks rs c) l r ∙ f.is)) (stripping j);
+  pub strip-parts : (d : State) → given (Ok d) → (b : Bool) → Asked (lent t e h rs ks) c l r x.from x.lhs x.rhs b → Strips (lent t e h rs ks) (lent t e h rs₁ ks) c l r (Ok (record { counts = d; rest = x; needed = b }))
+  strip-parts d w b a = record {
+    is = working_at (ap (ok (store_of (lent t e h rs₁ ks) d)) (rest-by entry (read_in t h c) (same_read t e h ks rs c) l r ∙ f.is)) (stripping (Ok d) w);
     inside = f.inside;
     needs = a;
   }

@@ -10,7 +10,8 @@ use native.Mathlib.Omega.{arith}
 use lib.ListN.{length, get_or, drop, length-drop}
 use lib.Dec.{eqb}
 use Rattle.records.specs.declared.State.{State}
-use Rattle.records.specs.declared.Added.TheVariants as adding
+use Rattle.std.specs.Prelude.{Result, Ok, Err}
+use Rattle.records.specs.declared.refusal.Refusal.{Refusal}
 use Rattle.records.specs.Lists.{all, keep, Every}
 use Rattle.records.specs.Store.{Store, Out, ok, stop, and_then, ◌>>◌, is_string}
 use Rattle.records.specs.View.{Lent, lent, store_of, terms_view, read_in, termed}
@@ -22,7 +23,6 @@ use Rattle.records.proofs.Lists.{both_left, and-stop, and-next, failed, passed, 
 use Rattle.records.proofs.ListLaws.{list-strings, list_every}
 use Rattle.records.proofs.Doing.{working_same, working_is, working_answer}
 use Rattle.records.proofs.Works.{one_store}
-use Rattle.records.proofs.Sequence.{added-at}
 use Rattle.sides.specs.declared.StepResult.{StepResult}
 use Rattle.sides.specs.declared.StepResult.TheVariants as step
 use Rattle.sides.specs.Wordeq.{conflict, Tried, answer, pass, settled, ◌or_else◌, same, fixed, letters, fits, variables, explain_all, tile_by, tile}
@@ -36,7 +36,6 @@ use Rattle.sides.proofs.SideReady.{ready-read_in, which_whole}
 use Rattle.sides.proofs.Refines.ExplainingEach.{same-classes}
 use Rattle.sides.proofs.Refines.Fitting.{fits_whole}
 use Rattle.sides.proofs.Residual.{fixed-variables, variables-from, variables-none, variables-short, agree-variables}
-use Rattle.records.specs.declared.Added.{Added as Answered}
 
 -- A LIST
 
@@ -77,12 +76,12 @@ module _ (t h : List ℕ) (c : State) (word side : List ℕ) (i : ℕ) where
     classes : b ≡ all (λ u. same s u v) vs
     classes = e ∙ ap (all (agrees s v)) (after side i) ∙ agree-variables s v (drop (suc i) side)
 
-    pub unfit-apart : not b ≡ true → false ≡ unfit s word side v vs
-    unfit-apart n = and-stop _ _ (failed _ b classes n)
+    pub unfit-apart : b ≡ false → b ≡ unfit s word side v vs
+    unfit-apart n = n ∙ and-stop _ _ (sym classes ∙ n)
 
-    pub unfit-is : not b ≡ false → (n : ℕ) → n ≡ length (variables (termed t c) (part side (i + 1) (length side))) → (f : Bool) → f ≡ fits s (letters s word) side (n + 1) → not f ≡ unfit s word side v vs
+    pub unfit-is : b ≡ true → (n : ℕ) → n ≡ length (variables (termed t c) (part side (i + 1) (length side))) → (f : Bool) → f ≡ fits s (letters s word) side (n + 1) → not f ≡ unfit s word side v vs
     unfit-is o n g f j =
-        and-next _ _ (not f) (passed _ b classes o)
+        and-next _ _ (not f) (sym classes ∙ o)
         (ap not (j ∙ ap (λ (k : ℕ). fits s (letters s word) side k) (add-one n ∙ ap suc (g ∙ ap (λ (k : List ℕ). length (variables s k)) (after side i)))))
 
 -- THE STEP ON THE SIDES
@@ -104,7 +103,7 @@ module _ (t e h rs ks : List ℕ) (c : State) (word side : List ℕ) (i : ℕ) (
   unfolding fixed
   here = record { within = x.within; before = x.before; at = x.at }
 
-  pub tile-none : Ready m c → length side ≤ i → Tries (tile_by s₁ word side (variables s₁ side)) m m c (step.Done c)
+  pub tile-none : Ready m c → length side ≤ i → Tries (tile_by s₁ word side (variables s₁ side)) m m c (Ok (step.Done c))
   unfolding tile_by
   tile-none d b = record { is = λ k. working_same d (ap (λ (l : List ℕ). tile_by s₁ word side l s₁) (variables-none s₁ side i here b)) }
 
@@ -116,7 +115,7 @@ module _ (t e h rs ks : List ℕ) (c : State) (word side : List ℕ) (i : ℕ) (
     unfolding same
     whole = f ∙ ap (λ (z : Bool). all (λ u. same s₁ u v₁) vs₁ && not z) (fits_whole t e h rs ks c word side (suc (length vs₁)))
 
-    pub tile-fits : Ready m c → not y ≡ true → Tries (tile_by s₁ word side (variables s₁ side)) m m c (step.Done c)
+    pub tile-fits : Ready m c → not y ≡ true → Tries (tile_by s₁ word side (variables s₁ side)) m m c (Ok (step.Done c))
     unfolding tile_by
     tile-fits d n = record { is = λ k. working_same d (ap (λ (l : List ℕ). tile_by s₁ word side l s₁) found ∙ passes (failed _ y whole n)) }
       where
@@ -134,22 +133,28 @@ module _ (t e h rs ks : List ℕ) (c : State) (word side : List ℕ) (i : ℕ) (
       pub tile-classes : Every (λ u. OneClass (terms_view t c.terms) u v₁) (part side (i + 1) (length side))
       tile-classes = subst (Every (λ u. OneClass (terms_view t c.terms) u v₁)) (sym (after side i)) (same-classes s₁ v₁ (drop (suc i) side) (both_left _ _ test))
 
-      module _ (rs' : List ℕ) (a : Answered) (w : Working (explain_all (variables (read_in t h c) (part side (i + 1) (length side))) v₁) m (lent t e h rs' ks) c (added a (lent t e h rs' ks))) where
-        explained : {y : Answered} → a ≡ y → Working (explain_all vs₁ v₁) m (lent t e h rs' ks) c (added y (lent t e h rs' ks))
-        explained j = working_is (ap (λ (l : List ℕ). explain_all (variables s₁ l) v₁ s₁) (sym (after side i))) (added-at j w)
+      module _ (rs' : List ℕ) where
+        explained : (y : Result State Refusal) → Working (explain_all (variables (read_in t h c) (part side (i + 1) (length side))) v₁) m (lent t e h rs' ks) c (added y (lent t e h rs' ks))
+            → Working (explain_all vs₁ v₁) m (lent t e h rs' ks) c (added y (lent t e h rs' ks))
+        explained y w = working_is (ap (λ (l : List ℕ). explain_all (variables s₁ l) v₁ s₁) (sym (after side i))) w
 
-        tiled : {y : Answered} → a ≡ y → Working (tile_by s₁ word side (variables s₁ side)) m (lent t e h rs' ks) c (and_then (λ u. answer conflict) (added y (lent t e h rs' ks)))
+        tiled : (y : Result State Refusal) → Working (explain_all (variables (read_in t h c) (part side (i + 1) (length side))) v₁) m (lent t e h rs' ks) c (added y (lent t e h rs' ks))
+            → Working (tile_by s₁ word side (variables s₁ side)) m (lent t e h rs' ks) c (and_then (λ u. answer conflict) (added y (lent t e h rs' ks)))
         unfolding tile_by
-        tiled j = working_is (ap (λ (l : List ℕ). tile_by s₁ word side l s₁) found ∙ cites test) (working_answer (λ u. answer conflict) (λ u s s' x i. one_store i) (explained j))
+        tiled y w =
+            working_is (ap (λ (l : List ℕ). tile_by s₁ word side l s₁) found ∙ cites test)
+            (working_answer (λ u. answer conflict) (λ u s s' x i. one_store i) (explained y w))
           where
             cites : unfit s₁ word side v₁ vs₁ ≡ true → tile_by s₁ word side (v₁ ∷ vs₁) s₁ ≡ and_then (λ u. answer conflict) (explain_all vs₁ v₁ s₁)
             cites z = rw z
 
-        pub tile-conflict : (d : State) → a ≡ adding.Counts d → Tries (tile_by s₁ word side (variables s₁ side)) m (lent t e h rs' ks) c (step.Conflict d)
-        tile-conflict d j = record { is = λ k. tiled j }
+        pub tile-conflict : (d : State) → Working (explain_all (variables (read_in t h c) (part side (i + 1) (length side))) v₁) m (lent t e h rs' ks) c (added (Ok d) (lent t e h rs' ks))
+            → Tries (tile_by s₁ word side (variables s₁ side)) m (lent t e h rs' ks) c (Ok (step.Conflict d))
+        tile-conflict d w = record { is = λ k. tiled (Ok d) w }
 
-        pub tile-refused : (n : ℕ) → a ≡ adding.Refused n → Tries (tile_by s₁ word side (variables s₁ side)) m (lent t e h rs' ks) c (step.Refused n)
-        tile-refused n j = record { is = λ k. tiled j }
+        pub tile-refused : (n : Refusal) → Working (explain_all (variables (read_in t h c) (part side (i + 1) (length side))) v₁) m (lent t e h rs' ks) c (added (Err n) (lent t e h rs' ks))
+            → Tries (tile_by s₁ word side (variables s₁ side)) m (lent t e h rs' ks) c (Err n)
+        tile-refused n w = record { is = λ k. tiled (Err n) w }
 
 -- THE SIDES
 
@@ -220,7 +225,7 @@ module _ (m₀ : Lent) (c : State) (l r word side : List ℕ) (w : ℕ) (x : w �
     right = rw q (picked-list (store_of m₀ c) w r l y.right y.left);
   }
 
-  pub sides-tried : (m' : Lent) (o : StepResult) → Tries (tile_by (store_of m₀ c) word side (variables (store_of m₀ c) side)) m₀ m' c o → Tries (tile l r or_else tile r l) m₀ m' c o
+  pub sides-tried : (m' : Lent) (o : Result StepResult Refusal) → Tries (tile_by (store_of m₀ c) word side (variables (store_of m₀ c) side)) m₀ m' c o → Tries (tile l r or_else tile r l) m₀ m' c o
   sides-tried m' o y = record { is = λ k. working_is (tile-sides (store_of m₀ c) l r ∙ same-sides) (y.is k) }
     where
       same-sides : tile_by (store_of m₀ c) (picked (which_fixed (store_of m₀ c) l r) l r) (picked (which_fixed (store_of m₀ c) l r) r l) (variables (store_of m₀ c) (picked (which_fixed (store_of m₀ c) l r) r l)) (store_of m₀ c)

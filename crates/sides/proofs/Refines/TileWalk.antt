@@ -17,8 +17,8 @@ use Rattle.records.specs.View.{char_limit, read_in, termed, term_at}
 use Rattle.records.proofs.Lists.{decide, left_false, clash}
 use Rattle.sides.specs.declared.letters.Cursor.{Cursor}
 use Rattle.sides.specs.Wordeq.{letters_of, letters, filled}
-use Rattle.sides.specs.Working.Sides.{Texts, Spelled, rest, next, There, Settled, heads_agree, fill_count, fill_start, fill_source, Tiling, Ended}
-use Rattle.sides.proofs.Refines.SideLetters.{letters-at, count-some, whole_part}
+use Rattle.sides.specs.Working.Sides.{Texts, Spelled, rest, next, There, Settled, heads_agree, fill_count, fill_start, fill_source, Tiling}
+use Rattle.sides.proofs.Refines.SideLetters.{letters-at, count-some}
 use Rattle.sides.proofs.Refines.SideWalk.{count_same, place-limit, rest_end, heads-left, heads-right}
 
 -- ONE CHARACTER
@@ -52,34 +52,10 @@ drop-next j l = rw add-one (go j l)
     go (suc j) [] = refl
     go (suc j) (x ∷ l) = go j l
 
--- THE LEAVES
+-- ONE ATOM
 
-module _ (w : List ℕ) (c : State) (a k : ℕ) (e : k ≡ kind (termed w c) a) where
-  module _ (n : k ≡ 1 → ⊥) where
-    no : is_constant (termed w c) a ≡ false
-    no = ne_eqb (kind (termed w c) a) 1 (λ z. n (e ∙ z))
-
-    pub count-variable : (m : ℕ) → m ≡ fill_count (termed w c) a m
-    count-variable m = rw no
-
-    pub start-variable : (i : ℕ) (v : Cursor) → v ≡ fill_start (termed w c) a i v
-    start-variable i v = rw no
-
-    pub source_variable : (side word : List ℕ) → take (length word - 0) (drop 0 word) ≡ fill_source (termed w c) a side word
-    source_variable side word = rw no (whole_part word)
-
-  module _ (n : k ≡ 1) where
-    yes : is_constant (termed w c) a ≡ true
-    yes = eq-eqb (kind (termed w c) a) 1 (sym e ∙ n)
-
-    pub count-constant : (m v r : ℕ) → Texts w c → v ≡ (term_at w a).second → r ≡ v → r ≡ fill_count (termed w c) a m
-    count-constant m v r x f g = rw yes (count-some w c a k v r x e n f g)
-
-    pub start-constant : (i : ℕ) (v : Cursor) → record { atom = i; place = 0 } ≡ fill_start (termed w c) a i v
-    start-constant i v = rw yes
-
-    pub source_constant : (side word : List ℕ) → take (length side - 0) (drop 0 side) ≡ fill_source (termed w c) a side word
-    source_constant side word = rw yes (whole_part side)
+pub count-constant : (w : List ℕ) (c : State) (a k m v r : ℕ) → k ≡ kind (termed w c) a → k ≡ 1 → Texts w c → v ≡ (term_at w a).second → r ≡ v → r ≡ fill_count (termed w c) a m
+count-constant w c a k m v r e n x f g = rw (eq-eqb (kind (termed w c) a) 1 (sym e ∙ n)) (count-some w c a k v r x e n f g)
 
 filled_at : (s : Store) (u side : List ℕ) (i : ℕ) → i < length side
     → filled s u (drop i side) ≡ (if is_constant s (get_or side i 0) then text s (get_or side i 0) else u) ++ filled s u (drop (suc i) side)
@@ -123,8 +99,27 @@ module _ (w h : List ℕ) (c : State) (word side : List ℕ) (v : Cursor) (m : �
   pub record Walked (k : Cursor) (i : ℕ) : Type 0 where
     pub left : same_word (filled (read_in w h c) first (drop i side)) (rest (read_in w h c) word k.atom k.place) ≡ whole
 
-  pub walked_none : Walked (record { atom = 0; place = 0 }) 0
-  walked_none = record { left = refl }
+  -- the walk came to the end of the side
+  module _ (k x : Cursor) (i : ℕ) (b : Bool) (t : Texts w c) (a : Walked k i) (l : length side ≤ i) (p : Settled w c word k x) (e : b ≡ leb (length word) x.atom) where
+    over : leb (length word) x.atom ≡ true → b ≡ same_word [] (rest (read_in w h c) word x.atom x.place)
+    over y = e ∙ y ∙ sym (ap (same_word []) (rest_end (read_in w h c) word x.atom x.place (leb-true (length word) x.atom y)) ∙ none_left)
+
+    more : leb (length word) x.atom ≡ false → b ≡ same_word [] (rest (read_in w h c) word x.atom x.place)
+    more y =
+        let s = read_in w h c in
+        let o : x.atom < length word = leb-false (length word) x.atom y in
+        let q = p.at.there o in
+        let r = count_same w h c (get_or word x.atom 0) t in
+        let g = ap length (letters-at s word x.atom o) ∙ length-append (letters_of s (get_or word x.atom 0)) (letters s (drop (suc x.atom) word)) in
+        let d = length-drop x.place (letters s (drop x.atom word)) in
+        e ∙ y ∙ sym (some_left (rest s word x.atom x.place) (omega arith))
+
+    pub walked_end : b ≡ whole
+    walked_end =
+        decide (leb (length word) x.atom) over more
+        ∙ ap (same_word []) (p.same h)
+        ∙ sym (ap (λ (z : List ℕ). same_word z (rest (read_in w h c) word k.atom k.place)) (filled-end (read_in w h c) first side i l))
+        ∙ a.left
 
   -- what is left of the filling of atom i: n - j characters of the source from x on
   pub record Filling (i n : ℕ) (source : List ℕ) (k x : Cursor) (j : ℕ) : Type 0 where
@@ -200,27 +195,6 @@ module _ (w h : List ℕ) (c : State) (word side : List ℕ) (v : Cursor) (m : �
           (let u = length-append (letters_of s a) (letters s (drop (suc i) side)) in omega arith)
           (rw (y, take-append_seam, z) (letters-text s a z))
 
-pub ended-before : (w : List ℕ) (c : State) (word side : List ℕ) (i : ℕ) (k : Cursor) → i < length side → Ended w c word side i k false
-ended-before w c word side i k l = record { before = λ z. refl; after = λ h z. absurd (omega arith) }
-
-pub ended-after : (w : List ℕ) (c : State) (word side : List ℕ) (i : ℕ) (k x : Cursor) (b : Bool) → Texts w c → length side ≤ i → Settled w c word k x → b ≡ leb (length word) x.atom
-    → Ended w c word side i k b
-ended-after w c word side i k x b t l p e =
-    record { before = λ z. absurd (omega arith); after = λ h z. rw (sym (p.same h)) (decide (leb (length word) x.atom) (λ y. over h y) (λ y. more h y)) }
-  where
-    over : (h : List ℕ) → leb (length word) x.atom ≡ true → b ≡ same_word [] (rest (read_in w h c) word x.atom x.place)
-    over h y = e ∙ y ∙ sym (ap (same_word []) (rest_end (read_in w h c) word x.atom x.place (leb-true (length word) x.atom y)) ∙ none_left)
-
-    more : (h : List ℕ) → leb (length word) x.atom ≡ false → b ≡ same_word [] (rest (read_in w h c) word x.atom x.place)
-    more h y =
-        let s = read_in w h c in
-        let o : x.atom < length word = leb-false (length word) x.atom y in
-        let q = p.at.there o in
-        let r = count_same w h c (get_or word x.atom 0) t in
-        let g = ap length (letters-at s word x.atom o) ∙ length-append (letters_of s (get_or word x.atom 0)) (letters s (drop (suc x.atom) word)) in
-        let d = length-drop x.place (letters s (drop x.atom word)) in
-        e ∙ y ∙ sym (some_left (rest s word x.atom x.place) (omega arith))
-
 module _ (w h : List ℕ) (c : State) (word source : List ℕ) (k x : Cursor) (b : Bool) (t : Spelled w h c)
     (e : b ≡ heads_agree (rest (read_in w h c) word k.atom k.place) (rest (read_in w h c) source x.atom x.place)) (d : not b ≡ false) where
   pub word_limit_lem : There w c word k → There w c source x → k.place ≤ char_limit
@@ -232,13 +206,3 @@ module _ (w h : List ℕ) (c : State) (word source : List ℕ) (k x : Cursor) (b
   source_limit q p = decide (leb (length source) x.atom)
       (λ y. clash (not-false b d) (e ∙ sym (heads-right (read_in w h c) source _ x.atom x.place (leb-true (length source) x.atom y))))
       (λ y. let z = place-limit w h c source x t p (leb-false (length source) x.atom y) in omega arith)
-
-module _ (w h : List ℕ) (c : State) (word side : List ℕ) (v : Cursor) (m : ℕ) (k : Cursor) (i : ℕ) (b : Bool) (g : Ended w c word side i k b) where
-  at_end : Walked w h c word side v m k i → length side ≤ i → b ≡ whole w h c word side v m
-  at_end a l = g.after h l ∙ sym (ap (λ (z : List ℕ). same_word z (rest (read_in w h c) word k.atom k.place)) (filled-end (read_in w h c) (first w h c word side v m) side i l)) ∙ a.left
-
-  pub tiled_end : (k₀ : Cursor) → k ≡ k₀ → Walked w h c word side v m k₀ i → length side ≤ i → b ≡ whole w h c word side v m
-  tiled_end k₀ e a l = at_end (rw (sym e) at a) l
-
-  pub tiled_break : false ≡ whole w h c word side v m → i < length side → b ≡ whole w h c word side v m
-  tiled_break e l = g.before l ∙ e

@@ -3,8 +3,8 @@ use mathlib.Core.Path.{◌≡◌, refl, sym, ap, ◌∙◌}
 use mathlib.Core.List.{List}
 use Prim.Native.Nat.{ℕ, ◌+◌}
 use Rattle.records.specs.declared.State.{State}
-use Rattle.records.specs.declared.Added.{Added as Answered}
-use Rattle.records.specs.declared.Added.TheVariants as adding
+use Rattle.std.specs.Prelude.{Ok, Err}
+use Rattle.records.specs.declared.refusal.Refusal.{Refusal}
 use Rattle.records.specs.Store.{ok, Work, and_then}
 use Rattle.records.specs.View.{Lent, lent, store_of}
 use Rattle.records.specs.Meaning.{Words}
@@ -13,7 +13,6 @@ use Rattle.records.specs.Calls.{added}
 use Rattle.records.specs.Working.Doing.{Working}
 use Rattle.records.proofs.IndexStores.{keeps-terms}
 use Rattle.records.proofs.Doing.{working_stopped, working_left}
-use Rattle.records.proofs.Sequence.{added-at, added-ready}
 use Rattle.sides.proofs.Cited.{Cited}
 use Rattle.sides.proofs.Refines.AddingReasons.{Going, going_none, going_then, kept_down}
 
@@ -30,21 +29,19 @@ module _ (t e h ks : List ℕ) (left : ℕ → Work (Unit {0})) where
   turning_none d = record { going = going_none t e h ks d; rest = refl }
 
   module _ {c d : State} {rs rs₁ : List ℕ} {i : ℕ} (g : Turning c rs d rs₁ i) where
-    pub turning_end : left i (store_of (at rs₁) d) ≡ ok (store_of (at rs₁) d) tt → Working (left 0) (at rs) (at rs₁) c (added (adding.Counts d) (at rs₁))
+    pub turning_end : left i (store_of (at rs₁) d) ≡ ok (store_of (at rs₁) d) tt → Working (left 0) (at rs) (at rs₁) c (added (Ok d) (at rs₁))
     turning_end z = working_left g.going.ready (sym g.rest ∙ z) (keeps-terms g.going.kept refl)
 
     -- the work of turn i
     module _ (one : Work (Unit {0})) (next : left i (store_of (at rs₁) d) ≡ and_then (λ u. left (i + 1)) (one (store_of (at rs₁) d)))
-        (rs₂ : List ℕ) (y : Answered) (w : Working one (at rs₁) (at rs₂) d (added y (at rs₂))) where
-      pub turning_refused : (n : ℕ) → y ≡ adding.Refused n → Working (left 0) (at rs) (at rs₂) c (added (adding.Refused n) (at rs₂))
-      turning_refused n j =
-          working_stopped (sym g.rest ∙ next ∙ ap (and_then (λ u. left (i + 1))) (added-at j w).says) (keeps-terms (kept_down t e h ks g.going rs₂ w.kept.store) refl)
+        (rs₂ : List ℕ) where
+      pub turning_refused : (n : Refusal) → Working one (at rs₁) (at rs₂) d (added (Err n) (at rs₂)) → Working (left 0) (at rs) (at rs₂) c (added (Err n) (at rs₂))
+      turning_refused n w =
+          working_stopped (sym g.rest ∙ next ∙ ap (and_then (λ u. left (i + 1))) w.says) (keeps-terms (kept_down t e h ks g.going rs₂ w.kept.store) refl)
 
-      pub turning_on : {P : Words → Type 0} (d₂ : State) → y ≡ adding.Counts d₂
+      pub turning_on : {P : Words → Type 0} (d₂ : State) → Working one (at rs₁) (at rs₂) d (added (Ok d₂) (at rs₂))
           → (one (store_of (at rs₁) d) ≡ ok (store_of (at rs₂) d₂) tt → Cited P (store_of (at rs₁) d) (store_of (at rs₂) d₂)) → Turning c rs d₂ rs₂ (i + 1)
-      turning_on d₂ j x =
-          let v = added-at j w in
-          record {
-            going = going_then t e h ks g.going rs₂ (added-ready j w) (x v.says).added v.kept.store;
-            rest = sym (next ∙ ap (and_then (λ u. left (i + 1))) v.says) ∙ g.rest;
-          }
+      turning_on d₂ w x = record {
+        going = going_then t e h ks g.going rs₂ (w.ready d₂ tt refl) (x w.says).added w.kept.store;
+        rest = sym (next ∙ ap (and_then (λ u. left (i + 1))) w.says) ∙ g.rest;
+      }

@@ -1,7 +1,9 @@
 -- What the steps' functions require and answer.
-use Rattle.std.specs.Prelude.{◌≡◌, true, List, ℕ, take}
+use Rattle.std.specs.Prelude.{◌≡◌, true, List, ℕ, take, Result, Ok, Err}
 use Rattle.std.proofs.Math.Option.{Option, none, some}
 use Rattle.records.specs.declared.State.{State}
+use Rattle.records.specs.declared.refusal.Refusal.{Refusal}
+use Rattle.records.specs.Refusal.{number}
 use Rattle.records.specs.Store.{Store, Out, ok, stop}
 use Rattle.records.specs.View.{Lent, store_of}
 use Rattle.records.specs.Working.Doing.{Working}
@@ -16,14 +18,14 @@ pub record BothLists (s : Store) (l r : List ℕ) : Type 0 where
   pub right : is_list s r ≡ true
 
 -- a single step's answer: after Done so far the next step is tried
-abbrev pub tried : StepResult → Lent → List ℕ → Out (Option Answer)
-tried (step.Done c) m k = ok (store_of m c) none
-tried (step.Saturated c) m k = ok (store_of m c) (some saturated)
-tried (step.Conflict c) m k = ok (store_of m c) (some conflict)
-tried (step.Propagate c v w f) m k = ok (store_of m c) (some (propagate v w f))
-tried (step.Split c n g j) m k = ok (store_of m c) (some (split (take n k) g j))
-tried (step.Refused n) m k = stop n
+abbrev pub tried : Result StepResult Refusal → Lent → List ℕ → Out (Option Answer)
+tried (Ok (step.Done c)) m k = ok (store_of m c) none
+tried (Ok (step.Saturated c)) m k = ok (store_of m c) (some saturated)
+tried (Ok (step.Conflict c)) m k = ok (store_of m c) (some conflict)
+tried (Ok (step.Propagate c v w f)) m k = ok (store_of m c) (some (propagate v w f))
+tried (Ok (step.Split c n g j)) m k = ok (store_of m c) (some (split (take n k) g j))
+tried (Err e) m k = stop (number e)
 
 -- a step that lists no atoms: so whatever words the list's slice has
-pub record Tries (work : Tried) (m m' : Lent) (c : State) (o : StepResult) : Type 0 where
+pub record Tries (work : Tried) (m m' : Lent) (c : State) (o : Result StepResult Refusal) : Type 0 where
   pub is : (k : List ℕ) → Working work m m' c (tried o m' k)

@@ -1,7 +1,7 @@
 -- What the tests of two lists read: the terms and characters alone, and a place within a side's constant characters.
 use Rattle.std.specs.Prelude.{◌≡◌, Bool, true, false, not, List, [], ◌∷◌, ℕ, ◌+◌, ◌≤◌, ◌<◌, length, take, drop, get_or, eqb, if◌then◌else◌}
 use Rattle.records.specs.declared.State.{State}
-use Rattle.records.specs.Lists.{any, same_word}
+use Rattle.records.specs.Lists.{any}
 use Rattle.records.specs.Store.{Store, kind, term, is_constant}
 use Rattle.records.specs.View.{char_limit, read_in, termed}
 use Rattle.sides.specs.declared.letters.Cursor.{Cursor}
@@ -74,8 +74,3 @@ fill_source s a side word = if is_constant s a then side else word
 pub record Tiling (w h : List ℕ) (c : State) (word : List ℕ) (v : Cursor) (m : ℕ) : Type 0 where
   pub known : Spelled w h c
   pub fits : m ≤ length (rest (read_in w h c) word v.atom v.place)
-
--- b: nothing of the side is left from atom i on, nor of the word from k on
-pub record Ended (w : List ℕ) (c : State) (word side : List ℕ) (i : ℕ) (k : Cursor) (b : Bool) : Type 0 where
-  pub before : i < length side → b ≡ false
-  pub after : (h : List ℕ) → length side ≤ i → b ≡ same_word [] (rest (read_in w h c) word k.atom k.place)

@@ -1,6 +1,8 @@
 -- What the working functions of step 1 read, and what they answer.
-use Rattle.std.specs.Prelude.{◌≡◌, Bool, true, false, List, reverse, ℕ, ◌-◌, ◌≤◌, length, take, drop}
+use Rattle.std.specs.Prelude.{◌≡◌, Bool, true, false, List, reverse, ℕ, ◌-◌, ◌≤◌, length, take, drop, Result, Ok, Err}
 use Rattle.records.specs.declared.State.{State}
+use Rattle.records.specs.declared.refusal.Refusal.{Refusal}
+use Rattle.records.specs.Refusal.{number}
 use Rattle.records.specs.Lists.{any}
 use Rattle.records.specs.Store.{Store, Out, ok, stop, is_string}
 use Rattle.records.specs.View.{Lent, lent, store_of}
@@ -8,7 +10,6 @@ use Rattle.records.specs.Working.Audited.{Ready}
 use Rattle.records.specs.Working.Doing.{Working}
 use Rattle.sides.specs.declared.Rest.{Rest}
 use Rattle.sides.specs.declared.Stripped.{Stripped}
-use Rattle.sides.specs.declared.Stripped.TheVariants.{Parts, Refused}
 use Rattle.sides.specs.Wordeq.{same_heads, same_tails, matches, needs_reason, rest, is_bare, strip}
 
 -- the terms and the characters of a store that passes the audit
@@ -52,19 +53,19 @@ pub record Needs (m : Lent) (c : State) (ps : List (ℕ × ℕ)) (b : Bool) : Ty
 pub record Asked (m : Lent) (c : State) (l r : List ℕ) (i x y : ℕ) (b : Bool) : Type 0 where
   pub is : is_bare (part l i x) (part r i y) ≡ false → b ≡ any (needs_reason (store_of m c)) (matches (store_of m c) l r)
 
-abbrev pub stripped : Stripped → Lent → List ℕ → List ℕ → Out (List ℕ × List ℕ)
-stripped (Parts c i x y b) m l r = ok (store_of m c) (part l i x, part r i y)
-stripped (Refused k) m l r = stop k
+abbrev pub stripped : Result Stripped Refusal → Lent → List ℕ → List ℕ → Out (List ℕ × List ℕ)
+stripped (Ok x) m l r = ok (store_of m x.counts) (part l x.rest.from x.rest.lhs, part r x.rest.from x.rest.rhs)
+stripped (Err e) m l r = stop (number e)
 
-abbrev pub Inside : Stripped → List ℕ → List ℕ → Type 0
-Inside (Parts c i x y b) l r = Within i x y l r
-Inside (Refused k) l r = Unit {0}
+abbrev pub Inside : Result Stripped Refusal → List ℕ → List ℕ → Type 0
+Inside (Ok x) l r = Within x.rest.from x.rest.lhs x.rest.rhs l r
+Inside (Err e) l r = Unit {0}
 
-abbrev pub Needed : Lent → State → List ℕ → List ℕ → Stripped → Type 0
-Needed m c l r (Parts d i x y b) = Asked m c l r i x y b
-Needed m c l r (Refused k) = Unit {0}
+abbrev pub Needed : Lent → State → List ℕ → List ℕ → Result Stripped Refusal → Type 0
+Needed m c l r (Ok x) = Asked m c l r x.rest.from x.rest.lhs x.rest.rhs x.needed
+Needed m c l r (Err e) = Unit {0}
 
-pub record Strips (m m' : Lent) (c : State) (l r : List ℕ) (o : Stripped) : Type 0 where
+pub record Strips (m m' : Lent) (c : State) (l r : List ℕ) (o : Result Stripped Refusal) : Type 0 where
   pub is : Working (strip l r) m m' c (stripped o m' l r)
   pub inside : Inside o l r
   pub needs : Needed m c l r o

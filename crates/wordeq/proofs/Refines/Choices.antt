@@ -9,6 +9,8 @@ use lib.ListN.{length, get_or}
 use lib.Dec.{eqb, leb}
 use borrow.Author.Tests.{eqb-true, le-leb}
 use Rattle.records.specs.declared.State.{State}
+use Rattle.std.specs.Prelude.{Result, Ok}
+use Rattle.records.specs.declared.refusal.Refusal.{Refusal}
 use Rattle.records.specs.Lists.{all}
 use Rattle.records.specs.Store.{Store, ok, and_then, is_variable}
 use Rattle.records.specs.View.{Lent, store_of, read_in, termed}
@@ -139,7 +141,7 @@ module _ (m : Lent) (c : State) (l r : List ℕ) where
   alias-same = refl
 
   module _ (x : Bool) (i : x ≡ aliased (read_in m.terms m.chars c) l r) where
-    pub choice_alias : Ready m c → x ≡ true → Tries whole m m c (step.Propagate c (get_or l 0 0) (get_or r 0 0) false)
+    pub choice_alias : Ready m c → x ≡ true → Tries whole m m c (Ok (step.Propagate c (get_or l 0 0) (get_or r 0 0) false))
     choice_alias d t =
         let e = i ∙ alias-same in
         let n = aliased-lengths now l r x t e in
@@ -150,7 +152,7 @@ module _ (m : Lent) (c : State) (l r : List ℕ) where
       to_second : second now ≡ empties l r now
       to_second = else_after first (empties l r) now (alias-none now l r (sym (i ∙ alias-same) ∙ t))
 
-      pub choice_left : y ≡ true → {m₁ : Lent} {o : StepResult} → Tries (empties [] r) m m₁ c o → Tries whole m m₁ c o
+      pub choice_left : y ≡ true → {m₁ : Lent} {o : Result StepResult Refusal} → Tries (empties [] r) m m₁ c o → Tries whole m m₁ c o
       choice_left g w =
           let p = emptied-parts now l r (sym f ∙ g) in
           let a = p.0 in
@@ -166,7 +168,7 @@ module _ (m : Lent) (c : State) (l r : List ℕ) where
         to_third : third now ≡ empties r l now
         to_third = else_after second (empties r l) now (to_second ∙ empties-none now l r (sym f ∙ g))
 
-        pub choice_right : y₁ ≡ true → {m₁ : Lent} {o : StepResult} → Tries (empties [] l) m m₁ c o → Tries whole m m₁ c o
+        pub choice_right : y₁ ≡ true → {m₁ : Lent} {o : Result StepResult Refusal} → Tries (empties [] l) m m₁ c o → Tries whole m m₁ c o
         choice_right g₁ w =
             let p = emptied-parts now r l (sym f₁ ∙ g₁) in
             let a = p.0 in
@@ -189,7 +191,7 @@ module _ (m : Lent) (c : State) (l r : List ℕ) where
           unfolding fixed
           right_same = refl
 
-          pub choice_first : u ≡ true → {m₁ : Lent} {o : StepResult} → Tries (assigns (get_or l 0 0 ∷ []) r) m m₁ c o → Tries whole m m₁ c o
+          pub choice_first : u ≡ true → {m₁ : Lent} {o : Result StepResult Refusal} → Tries (assigns (get_or l 0 0 ∷ []) r) m m₁ c o → Tries whole m m₁ c o
           choice_first h w =
               let n = assigned-length now l r u h (j ∙ left_same) in
               let b = assigned-both now l r u h (j ∙ left_same) in
@@ -202,9 +204,9 @@ module _ (m : Lent) (c : State) (l r : List ℕ) where
             to_whole : whole now ≡ assigns r l now
             to_whole = else_after fourth (assigns r l) now (to_fourth ∙ assigns-none now l r (sym (j ∙ left_same) ∙ h))
 
-            pub choice_last : v ≡ true → {m₁ : Lent} {o : StepResult} → Tries (assigns (get_or r 0 0 ∷ []) l) m m₁ c o → Tries whole m m₁ c o
+            pub choice_last : v ≡ true → {m₁ : Lent} {o : Result StepResult Refusal} → Tries (assigns (get_or r 0 0 ∷ []) l) m m₁ c o → Tries whole m m₁ c o
             choice_last z w =
                 let n = assigned-length now r l v z (q ∙ right_same) in record { is = λ k. working_is (to_whole ∙ ap (λ (z : List ℕ). assigns z l now) (lone r n)) (w.is k) }
 
-            pub choice_none : Ready m c → v ≡ false → Tries whole m m c (step.Done c)
+            pub choice_none : Ready m c → v ≡ false → Tries whole m m c (Ok (step.Done c))
             choice_none d z = record { is = λ k. working_same d (to_whole ∙ assigns-none now r l (sym (q ∙ right_same) ∙ z)) }

@@ -6,17 +6,16 @@ use mathlib.Core.Logic.{inl}
 use Prim.Native.Nat.{ℕ}
 use native.Mathlib.Omega.{arith}
 use lib.ListN.{length}
-use lib.Dec.{eqb}
 use borrow.Author.Tests.{not-true, not-false, eqb-true}
 use Rattle.records.specs.declared.State.{State}
 use Rattle.records.specs.Lists.{all}
-use Rattle.records.specs.Store.{Store, Out, ok, stop, is_string}
+use Rattle.records.specs.Store.{Out, ok, stop, is_string}
 use Rattle.records.specs.View.{Lent, store_of, read_in}
 use Rattle.records.specs.Rules.{audit, is_list}
 use Rattle.records.specs.Working.Audited.{Ready}
 use Rattle.records.specs.Calls.{Public, writes_nothing, call}
 use Rattle.records.specs.Working.Doing.{Working}
-use Rattle.records.proofs.Lists.{both_left, both_right, left_false, and-next}
+use Rattle.records.proofs.Lists.{both_left, both_right}
 use Rattle.records.proofs.Passed.{ready_of}
 use Rattle.records.proofs.Doing.{working_same}
 use Rattle.records.proofs.Outcomes.{refused-by}
@@ -28,22 +27,6 @@ use Rattle.sides.specs.Working.Stripping.{Readable}
 use Rattle.wordeq.specs.Calls.{equal_arguments, equal_lists, PublicEqualExplain}
 use Rattle.sides.proofs.Equal.{explain-equal-gives, explain-equal-sound, explain-equal-stops}
 use Rattle.records.proofs.LaterStores.{added-once}
-
--- ARGUMENTS
-
-module _ (s : Store) (l r : List ℕ) (b : Bool) (e : b ≡ is_list s l) where
-  pub lists-stop : not b ≡ true → false ≡ equal_arguments l r s
-  lists-stop h = sym (left_false _ _ (sym e ∙ not-true b h))
-
-  pub lists-last : not b ≡ false → (x : Bool) → x ≡ is_list s r → x ≡ equal_arguments l r s
-  lists-last h x q = and-next (is_list s l) (is_list s r) x (sym e ∙ not-false b h) q
-
-module _ (s : Store) (l r : List ℕ) (b : Bool) (e : b ≡ equal_arguments l r s) where
-  pub pair-stop : not b ≡ true → false ≡ nf_arguments l r s
-  pair-stop h = sym (left_false _ _ (sym e ∙ not-true b h))
-
-  pub pair-last : not b ≡ false → eqb (length l) (length r) ≡ nf_arguments l r s
-  pair-last h = and-next (equal_arguments l r s) (eqb (length l) (length r)) _ (sym e ∙ not-false b h) refl
 
 -- terms and characters alone give the same test
 equal-read : (m : Lent) (c : State) (l r : List ℕ) → nf_equal (read_in m.terms m.chars c) l r ≡ nf_equal (store_of m c) l r

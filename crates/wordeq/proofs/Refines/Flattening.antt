@@ -10,6 +10,7 @@ use mir.Syntax.{w32}
 use mir.Val.{to_z, of_z, SFits}
 use mir.ValLaws.{to_z-of_z}
 use Rattle.records.specs.declared.State.{State}
+use Rattle.std.specs.Prelude.{Ok}
 use Rattle.records.specs.Lists.{any, concat_map}
 use Rattle.records.specs.Store.{Store, Out, ok, stop, and_then, ◌>>=◌, give, is_concat}
 use Rattle.records.specs.View.{Lent, store_of}
@@ -30,8 +31,8 @@ use Rattle.wordeq.specs.Working.Resolving.{soft, flat_steps, ran}
 -- SOME ATOM IS A CONCATENATION
 
 module _ (s : Store) (l r : List ℕ) (b : Bool) (e : b ≡ any (is_concat s) l) where
-  pub either_left : b ≡ true → true ≡ any (is_concat s) (l ++ r)
-  either_left h = sym (any_append (is_concat s) l r ∙ ap (λ (x : Bool). x || any (is_concat s) r) (sym e ∙ h))
+  pub either_left : b ≡ true → b ≡ any (is_concat s) (l ++ r)
+  either_left h = h ∙ sym (any_append (is_concat s) l r ∙ ap (λ (x : Bool). x || any (is_concat s) r) (sym e ∙ h))
 
   pub either_right : b ≡ false → (x : Bool) → x ≡ any (is_concat s) r → x ≡ any (is_concat s) (l ++ r)
   either_right h x q = q ∙ sym (any_append (is_concat s) l r ∙ ap (λ (y : Bool). y || any (is_concat s) r) (sym e ∙ h))
@@ -87,13 +88,12 @@ guard_passed g f e = subst (λ (z : ℤ). is_guard z ≡ true) (sym (to_z-of_z w
 
 -- THE STEPS ON FLATTENED LISTS
 
-softened-is : (m : Lent) (k : List ℕ) (o : StepResult) → and_then (λ y. give (softened y)) (resolved o m k) ≡ resolved (soft o) m k
+softened-is : (m : Lent) (k : List ℕ) (o : StepResult) → and_then (λ y. give (softened y)) (resolved (Ok o) m k) ≡ resolved (Ok (soft o)) m k
 softened-is m k (step.Done d) = refl
 softened-is m k (step.Saturated d) = refl
 softened-is m k (step.Conflict d) = refl
 softened-is m k (step.Propagate d v w f) = refl
 softened-is m k (step.Split d n g j) = refl
-softened-is m k (step.Refused n) = refl
 
 module _ (m : Lent) (c : State) (l r : List ℕ) (g : ℤ) where
   abbrev onward : List ℕ → Store → Out Answer
@@ -108,13 +108,16 @@ module _ (m : Lent) (c : State) (l r : List ℕ) (g : ℤ) where
     unfolding flat_steps
     right-passes f = working_stopped (ap (and_then onward) e ∙ ap (and_then (λ r₁. steps g l₁ r₁ >>= (λ y. give (softened y)))) f) keeps_same
 
-    pub flat-done : SFits w32 g → (r₁ : List ℕ) → flatten r (store_of m c) ≡ ok (store_of m c) r₁ → {m' : Lent} (k : List ℕ) (o : StepResult) → Working (steps (to_z w32 (of_z w32 g)) l₁ r₁) m m' c (resolved o m' k)
-        → (x : StepResult) → x ≡ soft o → Working (flat_steps l r g) m m' c (resolved x m' k)
-    unfolding flat_steps
-    flat-done z r₁ f {m'} k o w x i =
-        working_at (softened-is m' k o ∙ ap (λ (z : StepResult). resolved z m' k) (sym i))
-        (working_is (ap (and_then onward) e ∙ ap (and_then (λ r₂. steps g l₁ r₂ >>= (λ y. give (softened y)))) f)
-        (working_answer (λ y. give (softened y)) (λ y s s' x j. one_store j) {w = steps g l₁ r₁} (working_is (ap (λ (y : ℤ). steps y l₁ r₁ (store_of m c)) (sym (to_z-of_z w32 g z))) w)))
+    module _ (z : SFits w32 g) (r₁ : List ℕ) (f : flatten r (store_of m c) ≡ ok (store_of m c) r₁) where
+      -- what follows the lists
+      pub flat-after : {m' : Lent} {o : Out Answer} → Working (steps (to_z w32 (of_z w32 g)) l₁ r₁) m m' c o → Working (flat_steps l r g) m m' c (and_then (λ y. give (softened y)) o)
+      unfolding flat_steps
+      flat-after w =
+          working_is (ap (and_then onward) e ∙ ap (and_then (λ r₂. steps g l₁ r₂ >>= (λ y. give (softened y)))) f)
+          (working_answer (λ y. give (softened y)) (λ y s s' x j. one_store j) {w = steps g l₁ r₁} (working_is (ap (λ (y : ℤ). steps y l₁ r₁ (store_of m c)) (sym (to_z-of_z w32 g z))) w))
+
+      pub flat-done : {m' : Lent} (k : List ℕ) (o : StepResult) → Working (steps (to_z w32 (of_z w32 g)) l₁ r₁) m m' c (resolved (Ok o) m' k) → (x : StepResult) → x ≡ soft o → Working (flat_steps l r g) m m' c (resolved (Ok x) m' k)
+      flat-done {m'} k o w x i = working_at (softened-is m' k o ∙ ap (λ (z : StepResult). resolved (Ok z) m' k) (sym i)) (flat-after w)
 
   module _ (b : Bool) (e : b ≡ any (is_concat (store_of m c)) (l ++ r)) where
     pub ran-flat : b ≡ true → SFits w32 g → {m' : Lent} {o : Out Answer} → Working (flat_steps l r (to_z w32 (of_z w32 g))) m m' c o → Working (ran l r g) m m' c o

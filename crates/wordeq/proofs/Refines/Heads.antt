@@ -8,7 +8,7 @@ use mathlib.Core.Option.{Option, none, some}
 use Prim.Native.Nat.{ℕ, zero, suc, ◌+◌, ◌-◌, ◌≤◌, ◌<◌}
 use native.Mathlib.Nat.{eq-or-lt_of_le}
 use native.Mathlib.Omega.{arith}
-use lib.ListN.{length, take, drop, get_or}
+use lib.ListN.{length, drop, get_or}
 use lib.Seq.{drop-cons}
 use lib.IntN.{ℤ, pos, negsuc, neg_ℤ, ◌-ℤ◌, +ℤ_idl}
 use lib.Dec.{ltb, leb}
@@ -17,31 +17,26 @@ use mir.Val.{SFits, to_z, of_z}
 use mir.ValLaws.{to_z-of_z}
 use borrow.Author.Tests.{eqb-true, eqb-false, ltb-true, lt-ltb, not-true}
 use Rattle.records.specs.declared.State.{State}
-use Rattle.records.specs.declared.Added.{Added}
-use Rattle.records.specs.declared.Added.TheVariants as adding
 use Rattle.records.specs.Lists.{all, any}
 use Rattle.records.specs.Store.{Store, Out, ok, stop, and_then, ◌>>=◌, ◌>>◌, count, kind, is_constant, is_string, text}
 use Rattle.records.specs.View.{Lent, store_of, pairs_view, read_in, termed, term_at}
 use Rattle.records.specs.Rules.{is_char, is_list, list_limit}
 use Rattle.records.specs.Make.{with_keys, ordered, same_pair, add_key, is_key}
 use Rattle.records.specs.Working.Audited.{Audited, Ready}
-use Rattle.records.specs.Calls.{added}
 use Rattle.records.specs.Working.Doing.{Working}
 use Rattle.records.proofs.Lists.{both_left, both_right, clash, table_at_lem, table-length}
 use Rattle.records.proofs.Readings.{text-characters}
 use Rattle.records.proofs.Kept.{key_kept}
-use Rattle.records.proofs.Doing.{working_same, working_at, working_is, working_answer}
-use Rattle.normalize.specs.declared.Form.{Form}
-use Rattle.normalize.specs.declared.Form.TheVariants as form
+use Rattle.records.proofs.Doing.{working_same, working_is, working_answer}
 use Rattle.records.proofs.Views.{text-words}
 use Rattle.sides.specs.Wordeq.{Answer, saturated, conflict, split, Tried, ◌or_else◌, is_full, differ, clashes, split_heads, split_by, splits, is_guard}
 use Rattle.sides.specs.Working.Results.{BothLists}
 use Rattle.sides.specs.Working.Sides.{Texts, Spelled}
-use Rattle.wordeq.specs.Working.Splits.{listed, character_atoms, head_atoms}
+use Rattle.wordeq.specs.Working.Splits.{character_atoms, head_atoms}
 use Rattle.wordeq.specs.Working.Heads.{HeadsApart, HeadPair, atoms_by, atoms_of, split_new}
 use Rattle.sides.specs.Working.Counting.{split_from}
 use Rattle.records.proofs.Counts.{higher-below}
-use Rattle.records.proofs.Sequence.{grows_key, working_then, working_stop, added-at}
+use Rattle.records.proofs.Sequence.{grows_key, working_then, working_stop}
 use Rattle.records.proofs.Works.{one_store}
 use Rattle.sides.proofs.Strip.{Apart}
 use Rattle.sides.proofs.SideReady.{ready-read_in, full-whole}
@@ -196,51 +191,44 @@ module _ (g : ℤ) (a b : ℕ) where
       at : (s₁ : Store) → s₁ ≡ with_keys s (s.keys ++ (ordered a b ∷ [])) → Audited s₁ → chosen s s₁ ≡ (atoms_of a b >>= split_from g (count s₁)) s₁
       at s₁ q k = subst (λ (x : Store). chosen s x ≡ (atoms_of a b >>= split_from g (count x)) x) (sym q) (chosen_is (with_keys s (s.keys ++ (ordered a b ∷ []))) (subst Audited q k) p.left p.right)
 
-module _ {m m₁ : Lent} {c : State} {r : Added} (g : ℤ) (a b : ℕ) (w : Working (add_key a b) m m₁ c (added r m₁)) where
-  pub new-stop : {k : ℕ} → r ≡ adding.Refused k → Working (split_new g a b) m m₁ c (stop k)
+module _ {m m₁ : Lent} {c : State} (g : ℤ) (a b : ℕ) where
+  pub new-stop : {k : ℕ} → Working (add_key a b) m m₁ c (stop k) → Working (split_new g a b) m m₁ c (stop k)
   unfolding split_new
-  new-stop e = working_stop {w = add_key a b} (λ u s. (atoms_of a b >>= split_from g (count s)) s) (added-at e w)
+  new-stop w = working_stop {w = add_key a b} (λ u s. (atoms_of a b >>= split_from g (count s)) s) w
 
-  module _ {d : State} (e : r ≡ adding.Counts d) where
+  module _ (d : State) (w : Working (add_key a b) m m₁ c (ok (store_of m₁ d) tt)) where
     pub new-pair : Ready m c → HeadPair (store_of m c) a b → HeadPair (store_of m₁ d) a b
     new-pair ready p =
-        let k = key_kept a b (store_of m c) (store_of m₁ d) ready.audited p.left p.right p.apart (added-at e w).says in
+        let k = key_kept a b (store_of m c) (store_of m₁ d) ready.audited p.left p.right p.apart w.says in
         subst (λ (s : Store). HeadPair s a b) (sym k.is) (record { left = p.left; right = p.right; apart = p.apart; mixed = p.mixed })
 
     -- what follows the key
-    after_key : {m₂ : Lent} {o : Out (List ℕ)} → Working (atoms_of a b) m₁ m₂ d o → Working (split_new g a b) m m₂ c (and_then (split_from g (count (store_of m₁ d))) o)
+    pub after_key : {m₂ : Lent} {o : Out (List ℕ)} → Working (atoms_of a b) m₁ m₂ d o → Working (split_new g a b) m m₂ c (and_then (split_from g (count (store_of m₁ d))) o)
     unfolding split_new split_from
     after_key w₂ =
-        working_then {w = add_key a b} (λ u s. (atoms_of a b >>= split_from g (count s)) s) d tt (grows_key a b) (added-at e w)
+        working_then {w = add_key a b} (λ u s. (atoms_of a b >>= split_from g (count s)) s) d tt (grows_key a b) w
         (working_is refl (working_answer (split_from g (count (store_of m₁ d))) (λ l s s' x i. one_store i) w₂))
 
-    module _ {m₂ : Lent} {f : Form} (l : List ℕ) (w₂ : Working (atoms_of a b) m₁ m₂ d (listed f m₂ l)) where
-      -- the atoms, by the form
-      atoms_are : {y : Form} → f ≡ y → Working (atoms_of a b) m₁ m₂ d (listed y m₂ l)
-      atoms_are i = working_at (ap (λ (x : Form). listed x m₂ l) i) w₂
-
-      pub new-done : {n j : ℕ} {d₂ : State} {z : ℤ} → f ≡ form.List n d₂ → z ≡ neg_ℤ g → j ≡ d₂.terms - d.terms → Working (split_new g a b) m m₂ c (ok (store_of m₂ d₂) (some (split (take n l) z j)))
+    module _ {m₂ : Lent} {l : List ℕ} (d₂ : State) (w₂ : Working (atoms_of a b) m₁ m₂ d (ok (store_of m₂ d₂) l)) where
+      pub new-done : {j : ℕ} {z : ℤ} → z ≡ neg_ℤ g → j ≡ d₂.terms - d.terms → Working (split_new g a b) m m₂ c (ok (store_of m₂ d₂) (some (split l z j)))
       unfolding split_from
-      new-done {n} {j} {d₂} {z} i p q =
+      new-done {j} {z} p q =
           let t₁ = table-length (λ i. term_at m₁.terms (suc i)) d.terms in
           let t₂ = table-length (λ i. term_at m₂.terms (suc i)) d₂.terms in
           let e : count (store_of m₂ d₂) - count (store_of m₁ d) ≡ j = omega arith in
-          rw (p, sym e) (after_key (atoms_are i))
-
-      pub new-stop_2 : {k : ℕ} → f ≡ form.Refused k → Working (split_new g a b) m m₂ c (stop k)
-      new-stop_2 i = after_key (atoms_are i)
+          rw (p, sym e) (after_key w₂)
 
       -- no term is taken away, and at most nine are made
-      pub new-below : {n : ℕ} {d₂ : State} → f ≡ form.List n d₂ → d.terms ≤ d₂.terms
-      new-below {n} {d₂} i = (higher-below m₁ m₂ d d₂ ((grows-atoms a b).higher (store_of m₁ d) (store_of m₂ d₂) (take n l) (atoms_are i).says)).terms
+      pub new-below : d.terms ≤ d₂.terms
+      new-below = (higher-below m₁ m₂ d d₂ ((grows-atoms a b).higher (store_of m₁ d) (store_of m₂ d₂) l w₂.says)).terms
 
-      pub new-small : Ready m₁ d → HeadPair (store_of m₁ d) a b → {n : ℕ} {d₂ : State} → f ≡ form.List n d₂ → d₂.terms - d.terms ≤ 9
+      pub new-small : Ready m₁ d → HeadPair (store_of m₁ d) a b → d₂.terms - d.terms ≤ 9
       unfolding split_from
-      new-small ready p {n} {d₂} i =
+      new-small ready p =
           let t₁ = table-length (λ i. term_at m₁.terms (suc i)) d.terms in
           let t₂ = table-length (λ i. term_at m₂.terms (suc i)) d₂.terms in
-          let e = chosen_is g a b (store_of m₁ d) ready.audited p.left p.right ∙ ap (and_then (split_from g (count (store_of m₁ d)))) (atoms_are i).says in
-          let h = ((chosen-few g a b (store_of m₁ d) (store_of m₁ d)).given (store_of m₂ d₂) (some (split (take n l) (neg_ℤ g) (count (store_of m₂ d₂) - count (store_of m₁ d)))) e).2 in
+          let e = chosen_is g a b (store_of m₁ d) ready.audited p.left p.right ∙ ap (and_then (split_from g (count (store_of m₁ d)))) w₂.says in
+          let h = ((chosen-few g a b (store_of m₁ d) (store_of m₁ d)).given (store_of m₂ d₂) (some (split l (neg_ℤ g) (count (store_of m₂ d₂) - count (store_of m₁ d)))) e).2 in
           omega arith
 
 -- THE HEADS

@@ -7,68 +7,30 @@ use Prim.Native.Nat.{ℕ, ◌+◌, ◌≤◌, ◌<◌}
 use native.Mathlib.Omega.{arith}
 use lib.ListN.{length, get_or, drop, drop_of_length-le}
 use lib.Dec.{eqb, leb}
-use borrow.Author.Tests.{eqb-true, eq-eqb, ne_eqb, leb-true, le-leb, lt-leb}
+use borrow.Author.Tests.{eqb-true, leb-true}
 use Rattle.records.specs.declared.State.{State}
-use Rattle.records.specs.declared.Made.{Made}
-use Rattle.records.specs.declared.Made.TheVariants.{Term, Refused}
+use Rattle.std.specs.Prelude.{Ok, Err}
+use Rattle.records.specs.declared.refusal.Refusal.{Refusal}
+use Rattle.records.specs.Refusal.{number}
 use Rattle.records.specs.Lists.{all, first_of, Every}
-use Rattle.records.specs.Store.{Store, ok, and_then, within, kind, is_variable, is_string}
+use Rattle.records.specs.Store.{Store, Out, ok, stop, and_then, within, kind, is_variable, is_string}
 use Rattle.records.specs.View.{Lent, store_of, read_in, termed}
 use Rattle.records.specs.Make.{make_constant}
 use Rattle.records.specs.Working.Audited.{Ready}
-use Rattle.records.specs.Calls.{made}
 use Rattle.records.specs.Working.Doing.{Working}
 use Rattle.records.proofs.Lists.{both_left, both_right, failed, passed, every_map, all_every, drop_head}
 use Rattle.records.proofs.Grown.{grown-string}
 use Rattle.records.proofs.Kept.{made-string}
 use Rattle.records.proofs.Doing.{working_at, working_is, constant-fit, working_answer}
 use Rattle.records.proofs.Works.{one_store}
-use Rattle.records.proofs.Sequence.{made_at}
 use Rattle.sides.specs.declared.StepResult.{StepResult}
 use Rattle.sides.specs.declared.StepResult.TheVariants as step
-use Rattle.sides.specs.Wordeq.{Answer, Tried, same, fixed, letters, is_plain, empties, empties_at, assigns}
+use Rattle.sides.specs.Wordeq.{Answer, Tried, same, fixed, letters, empties, empties_at, assigns}
 use Rattle.sides.specs.Working.Results.{tried, Tries}
 use Rattle.sides.specs.Working.Stripping.{Pair}
-use Rattle.wordeq.specs.Working.Propagates.{aliased, emptied, assigned, linked}
+use Rattle.wordeq.specs.Working.Propagates.{emptied, linked}
 use Rattle.wordeq.proofs.Refines.SplitAtoms.{no_characters}
 use Rattle.wordeq.proofs.Refines.PropagateMakes.{assigns-made}
-
--- THE TESTS
-
-module _ (s : Store) (l r : List ℕ) where
-  pub aliased-left : (length l ≡ 1 → ⊥) → false ≡ aliased s l r
-  aliased-left n = rw (ne_eqb (length l) 1 n)
-
-  module _ (e : length l ≡ 1) where
-    pub aliased-right : (length r ≡ 1 → ⊥) → false ≡ aliased s l r
-    aliased-right n = rw (eq-eqb (length l) 1 e, ne_eqb (length r) 1 n)
-
-    module _ (f : length r ≡ 1) (x : Bool) (i : x ≡ is_plain s (get_or l 0 0)) where
-      pub aliased-first : not x ≡ true → false ≡ aliased s l r
-      aliased-first n = rw (eq-eqb (length l) 1 e, eq-eqb (length r) 1 f, failed _ x i n)
-
-      pub aliased-last : not x ≡ false → (y : Bool) → y ≡ is_plain s (get_or r 0 0) → y ≡ aliased s l r
-      aliased-last n y j = rw (eq-eqb (length l) 1 e, eq-eqb (length r) 1 f, passed _ x i n) j
-
-  pub emptied-left : (length l ≡ 0 → ⊥) → false ≡ emptied s l r
-  emptied-left n = rw (ne_eqb (length l) 0 n)
-
-  module _ (e : length l ≡ 0) where
-    pub emptied-short : length r < 2 → false ≡ emptied s l r
-    emptied-short n = rw (eq-eqb (length l) 0 e, lt-leb 2 (length r) n)
-
-    pub emptied-last : 2 ≤ length r → (y : Bool) → y ≡ all (is_variable s) r → y ≡ emptied s l r
-    emptied-last n y j = rw (eq-eqb (length l) 0 e, le-leb 2 (length r) n) j
-
-  pub assigned-left : (length l ≡ 1 → ⊥) → false ≡ assigned s l r
-  assigned-left n = rw (ne_eqb (length l) 1 n)
-
-  module _ (e : length l ≡ 1) (k : ℕ) (i : k ≡ kind s (get_or l 0 0)) where
-    pub assigned-kind : (k ≡ 2 → ⊥) → false ≡ assigned s l r
-    assigned-kind n = rw (eq-eqb (length l) 1 e, ne_eqb (kind s (get_or l 0 0)) 2 (λ z. n (i ∙ z)))
-
-    pub assigned-last : k ≡ 2 → (y : Bool) → y ≡ fixed s r → y ≡ assigned s l r
-    assigned-last n y j = rw (eq-eqb (length l) 1 e, eq-eqb (kind s (get_or l 0 0)) 2 (sym i ∙ n)) j
 
 -- THE FIRST VARIABLE THAT IS NOT THE SAME
 
@@ -117,32 +79,32 @@ variable-string s v h = rw (eqb-true (kind s v) 2 h)
 empties_shape : (m : Lent) (c : State) (l : List ℕ) → emptied (termed m.terms c) [] l ≡ true → empties [] l (store_of m c) ≡ and_then (following l) (make_constant [] (store_of m c))
 empties_shape m c l h = let p = emptied-parts (store_of m c) [] l h in empties-is (store_of m c) l p.1 p.2
 
-module _ {m m₁ : Lent} {c : State} {x : Made} (l : List ℕ) (h : emptied (termed m.terms c) [] l ≡ true) (w : Working (make_constant []) m m₁ c (made x m₁)) where
-  empties-made : {y : Made} → x ≡ y → Working (empties [] l) m m₁ c (and_then (following l) (made y m₁))
-  empties-made e = working_is (empties_shape m c l h) (working_answer (following l) (λ t s s' a i. idle t (first_of (λ v. not (same s v t)) l) i) (made_at e w))
+module _ {m m₁ : Lent} {c : State} (l : List ℕ) (h : emptied (termed m.terms c) [] l ≡ true) where
+  empties-made : {o : Out ℕ} → Working (make_constant []) m m₁ c o → Working (empties [] l) m m₁ c (and_then (following l) o)
+  empties-made w = working_is (empties_shape m c l h) (working_answer (following l) (λ t s s' a i. idle t (first_of (λ v. not (same s v t)) l) i) w)
     where
       idle : (t : ℕ) (o : Option ℕ) {s s' : Store} {a : Option Answer} → empties_at t o s ≡ ok s' a → s ≡ s'
       idle t none i = one_store i
       idle t (some v) i = one_store i
 
-  pub empties-stop : {k : ℕ} → x ≡ Refused k → Tries (empties [] l) m m₁ c (step.Refused k)
-  empties-stop e = record { is = λ k. empties-made e }
+  pub empties-stop : {e : Refusal} → Working (make_constant []) m m₁ c (stop (number e)) → Tries (empties [] l) m m₁ c (Err e)
+  empties-stop w = record { is = λ k. empties-made w }
 
-  module _ {t : ℕ} {d : State} (e : x ≡ Term t d) where
-    linked-tried : (k : List ℕ) (o : Option ℕ) → empties_at t o (store_of m₁ d) ≡ tried (linked d t o) m₁ k
+  module _ {t : ℕ} (d : State) (w : Working (make_constant []) m m₁ c (ok (store_of m₁ d) t)) where
+    linked-tried : (k : List ℕ) (o : Option ℕ) → empties_at t o (store_of m₁ d) ≡ tried (Ok (linked d t o)) m₁ k
     linked-tried k none = refl
     linked-tried k (some v) = refl
 
-    pub empties-done : {o : StepResult} → o ≡ linked d t (first_of (λ v. not (same (read_in m₁.terms m₁.chars d) v t)) l) → Tries (empties [] l) m m₁ c o
+    pub empties-done : {o : StepResult} → o ≡ linked d t (first_of (λ v. not (same (read_in m₁.terms m₁.chars d) v t)) l) → Tries (empties [] l) m m₁ c (Ok o)
     unfolding same
     empties-done {o} f = record {
-      is = λ k. working_at (linked-tried k (first_of (λ v. not (same (store_of m₁ d) v t)) l) ∙ ap (λ (z : StepResult). tried z m₁ k) (sym f)) (empties-made e);
+      is = λ k. working_at (linked-tried k (first_of (λ v. not (same (store_of m₁ d) v t)) l) ∙ ap (λ (z : StepResult). tried (Ok z) m₁ k) (sym f)) (empties-made w);
     }
 
     pub empties-pairs : Ready m c → Every (λ v. Pair (read_in m₁.terms m₁.chars d) v t) l
     unfolding within
     empties-pairs ready =
-        let x = constant-fit (store_of m c) (store_of m₁ d) t ready.audited [] no_characters (made_at e w).says in
+        let x = constant-fit (store_of m c) (store_of m₁ d) t ready.audited [] no_characters w.says in
         every_map (λ v i. record { one = grown-string x.grown v (variable-string (store_of m c) v i); other = made-string x refl })
         (all_every (is_variable (store_of m c)) l (emptied-parts (store_of m c) [] l h).2)
 
@@ -152,12 +114,12 @@ both-whole : (m : Lent) (c : State) (a : ℕ) (l : List ℕ) → is_variable (te
 unfolding fixed
 both-whole m c a l h = h
 
-module _ {m m₁ : Lent} {c : State} {x : Made} (a : ℕ) (l : List ℕ) (h : is_variable (termed m.terms c) a && fixed (termed m.terms c) l ≡ true) (w : Working (λ s. make_constant (letters s l) s) m m₁ c (made x m₁)) where
-  pub assigned-done : {t : ℕ} {d : State} → x ≡ Term t d → Tries (assigns (a ∷ []) l) m m₁ c (step.Propagate d a t false)
-  assigned-done e = record { is = λ k. assigns-made a l (both-whole m c a l h) w e }
+module _ {m m₁ : Lent} {c : State} (a : ℕ) (l : List ℕ) (h : is_variable (termed m.terms c) a && fixed (termed m.terms c) l ≡ true) where
+  pub assigned-done : {t : ℕ} {d : State} → Working (λ s. make_constant (letters s l) s) m m₁ c (ok (store_of m₁ d) t) → Tries (assigns (a ∷ []) l) m m₁ c (Ok (step.Propagate d a t false))
+  assigned-done w = record { is = λ k. assigns-made a l (both-whole m c a l h) w }
 
-  pub assigned-stop : {k : ℕ} → x ≡ Refused k → Tries (assigns (a ∷ []) l) m m₁ c (step.Refused k)
-  assigned-stop e = record { is = λ k. assigns-made a l (both-whole m c a l h) w e }
+  pub assigned-stop : {e : Refusal} → Working (λ s. make_constant (letters s l) s) m m₁ c (stop (number e)) → Tries (assigns (a ∷ []) l) m m₁ c (Err e)
+  assigned-stop w = record { is = λ k. assigns-made a l (both-whole m c a l h) w }
 
 pub side_fixed : (m : Lent) (c : State) (a : ℕ) (l : List ℕ) → is_variable (termed m.terms c) a && fixed (termed m.terms c) l ≡ true → fixed (store_of m c) l ≡ true
 unfolding fixed

@@ -5,18 +5,15 @@ use mathlib.Core.Bool.{Bool, true, false, ◌&&◌}
 use mathlib.Core.List.{List, [], ◌∷◌}
 use Prim.Native.Nat.{ℕ}
 use Rattle.records.specs.declared.State.{State}
-use Rattle.records.specs.declared.Made.{Made}
 use Rattle.records.specs.Lists.{all, concat_map}
 use Rattle.records.specs.Store.{Store, Out, and_then, is_constant, is_variable, text}
 use Rattle.records.specs.View.{Lent, store_of}
 use Rattle.records.specs.Make.{make_constant}
-use Rattle.records.specs.Calls.{made}
 use Rattle.records.specs.Working.Doing.{Working}
 use Rattle.records.proofs.Lists.{all_every, every_map, concat_map-same}
 use Rattle.sides.specs.Wordeq.{propagate, answer, fixed, letters_of, letters, assigns}
 use Rattle.records.proofs.Doing.{working_is, working_answer}
 use Rattle.records.proofs.Works.{one_store}
-use Rattle.records.proofs.Sequence.{made_at}
 
 -- a side of constants: its constant characters are its characters
 pub letters-fixed : (s : Store) (l : List ℕ) → fixed s l ≡ true → letters s l ≡ concat_map (text s) l
@@ -31,7 +28,7 @@ pub word_made : {m m₁ : Lent} {c : State} {o : Out ℕ} (l : List ℕ) → fix
 word_made {m} {c = c} l h w = working_is (ap (λ (k : List ℕ). make_constant k (store_of m c)) (letters-fixed (store_of m c) l h)) w
 
 -- a lone variable against constants
-module _ {m m₁ : Lent} {c : State} {r : Made} (a : ℕ) (l : List ℕ) (h : is_variable (store_of m c) a && fixed (store_of m c) l ≡ true) (w : Working (λ s. make_constant (letters s l) s) m m₁ c (made r m₁)) where
-  pub assigns-made : {x : Made} → r ≡ x → Working (assigns (a ∷ []) l) m m₁ c (and_then (λ t. answer (propagate a t false)) (made x m₁))
-  unfolding assigns
-  assigns-made e = working_is (rw h) (working_answer (λ t. answer (propagate a t false)) (λ t s s' x i. one_store i) (made_at e w))
+pub assigns-made : {m m₁ : Lent} {c : State} {o : Out ℕ} (a : ℕ) (l : List ℕ) → is_variable (store_of m c) a && fixed (store_of m c) l ≡ true → Working (λ s. make_constant (letters s l) s) m m₁ c o
+    → Working (assigns (a ∷ []) l) m m₁ c (and_then (λ t. answer (propagate a t false)) o)
+unfolding assigns
+assigns-made a l h w = working_is (rw h) (working_answer (λ t. answer (propagate a t false)) (λ t s s' x i. one_store i) w)

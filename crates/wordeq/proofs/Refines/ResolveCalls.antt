@@ -7,11 +7,15 @@ use Prim.Native.Nat.{ℕ, suc, ◌-◌, ◌≤◌, ◌<◌}
 use native.Mathlib.Omega.{arith}
 use lib.ListN.{length, take}
 use lib.IntN.{ℤ, pos, negsuc}
-use borrow.Author.Tests.{not-true, not-false, eq-eqb, ne_eqb}
+use borrow.Author.Tests.{not-false, eqb-true, eq-eqb, ne_eqb}
+use lib.Dec.{eqb}
 use mir.Syntax.{w32}
 use mir.Val.{to_z, of_z, SFits}
 use mir.ValLaws.{to_z-of_z}
 use Rattle.records.specs.declared.State.{State}
+use Rattle.std.specs.Prelude.{Result, Ok, Err}
+use Rattle.records.specs.declared.refusal.Refusal.{Refusal}
+use Rattle.records.specs.Refusal.{number}
 use Rattle.records.specs.Lists.{all}
 use Rattle.records.specs.Store.{Store, Out, ok, stop, and_then, is_string}
 use Rattle.records.specs.View.{Lent, lent, store_of, pairs_view}
@@ -20,7 +24,8 @@ use Rattle.records.specs.Make.{with_reasons}
 use Rattle.records.specs.Rules.{audit, list_limit, is_list}
 use Rattle.records.specs.Working.Audited.{Ready}
 use Rattle.records.specs.Working.Doing.{ReadyFor, Working, CutRefused}
-use Rattle.records.proofs.Lists.{both_left, both_right, left_false, and-next, all_every}
+use Rattle.records.proofs.Doing.{working_stopped}
+use Rattle.records.proofs.Lists.{both_left, both_right, all_every, same_test}
 use Rattle.records.proofs.Works.{stop-not, one_store}
 use Rattle.records.proofs.Outcomes.{refused_wider}
 use Rattle.records.proofs.IndexStores.{records_same-but}
@@ -34,105 +39,90 @@ use Rattle.sides.specs.Working.Results.{BothLists}
 use Rattle.wordeq.specs.Working.Resolving.{closing, flat_steps, ran}
 use Rattle.sides.specs.Repeated.{Decides}
 use Rattle.wordeq.specs.Calls.{equal_arguments, PublicResolve, resolved}
-use Rattle.wordeq.specs.Working.Cuts.{unresolved}
 use Rattle.records.proofs.ListLaws.{list-strings}
 use Rattle.sides.proofs.Resolve.{resolve-gives, resolve-grows, resolve-kept, resolve-sound, resolve_stops}
 use Rattle.sides.proofs.Decided.{resolve-decides}
 
 -- CLOSED
 
-pub split-same : {d d' : State} {n j : ℕ} {g g' : ℤ} → d ≡ d' → g ≡ g' → step.Split d n g j ≡ step.Split d' n g' j
-split-same p q = cc
-
 module _ (m m' : Lent) (c : State) (k : List ℕ) (kept : store_of m' c ≡ store_of m c) where
   -- the incoming reasons are still there
   incoming : pairs_view m.reasons c.reasons ≡ pairs_view m'.reasons c.reasons
   incoming = ap (λ (s : Store). s.reasons) (sym kept)
 
-  closed_is : (o : StepResult) → and_then (closed (pairs_view m.reasons c.reasons)) (resolved o m' k) ≡ resolved (closing c.reasons o) m' k
+  closed_is : (o : StepResult) → and_then (closed (pairs_view m.reasons c.reasons)) (resolved (Ok o) m' k) ≡ resolved (Ok (closing c.reasons o)) m' k
   closed_is (step.Done d) = ap (λ (x : List (ℕ × ℕ)). ok (with_reasons (store_of m' d) x) done) incoming
   closed_is (step.Saturated d) = ap (λ (x : List (ℕ × ℕ)). ok (with_reasons (store_of m' d) x) saturated) incoming
   closed_is (step.Conflict d) = refl
   closed_is (step.Propagate d v w f) = refl
   closed_is (step.Split d n g j) = ap (λ (x : List (ℕ × ℕ)). ok (with_reasons (store_of m' d) x) (split (take n k) g j)) incoming
-  closed_is (step.Refused n) = refl
 
 -- other counts of reasons leave the slices ready, where the store is audited
-closed-ready : (m : Lent) (k : List ℕ) (n : ℕ) (o : StepResult) {d : State} {a : Answer} → ReadyFor m (resolved o m k) → Audited (store_of m d) → resolved (closing n o) m k ≡ ok (store_of m d) a → Ready m d
+closed-ready : (m : Lent) (k : List ℕ) (n : ℕ) (o : StepResult) {d : State} {a : Answer} → ReadyFor m (resolved (Ok o) m k) → Audited (store_of m d) → resolved (Ok (closing n o)) m k ≡ ok (store_of m d) a → Ready m d
 closed-ready m k n (step.Done e) r a q = ready-beside (r e _ refl) refl refl a (records_same-but (one_store q) refl refl refl)
 closed-ready m k n (step.Saturated e) r a q = ready-beside (r e _ refl) refl refl a (records_same-but (one_store q) refl refl refl)
 closed-ready m k n (step.Conflict e) {d = d} {a = y} r a q = r d y q
 closed-ready m k n (step.Propagate e v w f) {d = d} {a = y} r a q = r d y q
 closed-ready m k n (step.Split e j g i) r a q = ready-beside (r e _ refl) refl refl a (records_same-but (one_store q) refl refl refl)
-closed-ready m k n (step.Refused j) r a q = stop-not q
 
 resolve-is : (l r : List ℕ) (g : ℤ) (s : Store) → resolve l r g s ≡ and_then (closed s.reasons) (ran l r g s)
 unfolding resolve ran flat_steps
 resolve-is l r g s = refl
 
+-- the guard is handed on as its bits are read
+ran-says : (m : Lent) (c : State) (l r : List ℕ) (g : ℤ) → SFits w32 g → {o : Out Answer} → ran l r (to_z w32 (of_z w32 g)) (store_of m c) ≡ o → resolve l r g (store_of m c) ≡ and_then (closed (pairs_view m.reasons c.reasons)) o
+ran-says m c l r g f p =
+    resolve-is l r g (store_of m c)
+    ∙ ap (and_then (closed (pairs_view m.reasons c.reasons))) (ap (λ (y : ℤ). ran l r y (store_of m c)) (sym (to_z-of_z w32 g f)) ∙ p)
+
+pub resolve-refused : (m : Lent) (c : State) (l r : List ℕ) (g : ℤ) → SFits w32 g → {m' : Lent} {k : ℕ} → Working (ran l r (to_z w32 (of_z w32 g))) m m' c (stop k) → Working (resolve l r g) m m' c (stop k)
+resolve-refused m c l r g f w = working_stopped (ran-says m c l r g f w.says) w.kept
+
 pub resolve-closed : (m : Lent) (c : State) (l r : List ℕ) (g : ℤ) → Ready m c → BothLists (store_of m c) l r → SFits w32 g → {m' : Lent} (k : List ℕ) (o : StepResult)
-    → Working (ran l r (to_z w32 (of_z w32 g))) m m' c (resolved o m' k) → (x : StepResult) → x ≡ closing c.reasons o → Working (resolve l r g) m m' c (resolved x m' k)
+    → Working (ran l r (to_z w32 (of_z w32 g))) m m' c (resolved (Ok o) m' k) → (x : StepResult) → x ≡ closing c.reasons o → Working (resolve l r g) m m' c (resolved (Ok x) m' k)
 resolve-closed m c l r g ready lists f {m'} k o w x i =
     record {
       says = said;
       kept = w.kept;
       ready = λ d a q. closed-ready m' k c.reasons o w.ready (resolve-kept l r g (store_of m c) ready.audited (list-strings (store_of m c) l lists.left) (list-strings (store_of m c) r lists.right) (store_of m' d) a (said ∙ q))
-          (sym (ap (λ (z : StepResult). resolved z m' k) i) ∙ q);
+          (sym (ap (λ (z : StepResult). resolved (Ok z) m' k) i) ∙ q);
     }
   where
-    said : resolve l r g (store_of m c) ≡ resolved x m' k
-    said =
-        resolve-is l r g (store_of m c)
-        ∙ ap (and_then (closed (pairs_view m.reasons c.reasons))) (ap (λ (y : ℤ). ran l r y (store_of m c)) (sym (to_z-of_z w32 g f)) ∙ w.says)
-        ∙ closed_is m m' c k w.kept.store o ∙ ap (λ (z : StepResult). resolved z m' k) (sym i)
+    said : resolve l r g (store_of m c) ≡ resolved (Ok x) m' k
+    said = ran-says m c l r g f w.says ∙ closed_is m m' c k w.kept.store o ∙ ap (λ (z : StepResult). resolved (Ok z) m' k) (sym i)
 
 -- ARGUMENTS
 
 -- a guard by its bits
-pub guard-zero : (g : ℤ) → SFits w32 g → of_z w32 g ≡ 0 → false ≡ is_guard g
+pub guard-zero : (g : ℤ) → SFits w32 g → of_z w32 g ≡ 0 → not (eqb (of_z w32 g) 0) ≡ is_guard g
 unfolding is_guard
-guard-zero (pos n) f e = sym (ap not (eq-eqb n 0 e))
+guard-zero (pos n) f e = refl
 guard-zero (negsuc n) f e = let h : n < 0x8000_0000 = f.sfits in let k : 0x1_0000_0000 - suc n ≡ 0 = e in absurd (omega arith)
 
-pub guard-lowest : (g : ℤ) → SFits w32 g → of_z w32 g ≡ 0x8000_0000 → false ≡ is_guard g
+pub guard-other : (g : ℤ) → SFits w32 g → (of_z w32 g ≡ 0 → ⊥) → not (eqb (of_z w32 g) 0x8000_0000) ≡ is_guard g
 unfolding is_guard
-guard-lowest (pos n) f e = let h : n < 0x8000_0000 = f.sfits in let k : n ≡ 0x8000_0000 = e in absurd (omega arith)
-guard-lowest (negsuc n) f e = let h : n < 0x8000_0000 = f.sfits in let k : 0x1_0000_0000 - suc n ≡ 0x8000_0000 = e in sym (ap not (eq-eqb n 0x7FFF_FFFF (omega arith)))
-
-pub guard_good : (g : ℤ) → SFits w32 g → (of_z w32 g ≡ 0 → ⊥) → (of_z w32 g ≡ 0x8000_0000 → ⊥) → true ≡ is_guard g
-unfolding is_guard
-guard_good (pos n) f p q = sym (ap not (ne_eqb n 0 p))
-guard_good (negsuc n) f p q = sym (ap not (ne_eqb n 0x7FFF_FFFF (λ e. q (at n e))))
+guard-other (pos n) f p = let h : n < 0x8000_0000 = f.sfits in ap not (ne_eqb n 0x8000_0000 (λ e. omega arith) ∙ sym (ne_eqb n 0 p))
+guard-other (negsuc n) f p =
+    ap not (same_test (eqb (0x1_0000_0000 - suc n) 0x8000_0000) (eqb n 0x7FFF_FFFF)
+    (λ e. let k = eqb-true (0x1_0000_0000 - suc n) 0x8000_0000 e in eq-eqb n 0x7FFF_FFFF (at n k))
+    (λ e. let k = eqb-true n 0x7FFF_FFFF e in eq-eqb (0x1_0000_0000 - suc n) 0x8000_0000 (back n k)))
   where
-    at : (n : ℕ) → n ≡ 0x7FFF_FFFF → 0x1_0000_0000 - suc n ≡ 0x8000_0000
+    at : (n : ℕ) → 0x1_0000_0000 - suc n ≡ 0x8000_0000 → n ≡ 0x7FFF_FFFF
     at n e = omega arith
 
-module _ (s : Store) (l r : List ℕ) (g : ℤ) (b : Bool) (e : b ≡ equal_arguments l r s) where
-  pub guard-stop : not b ≡ true → false ≡ resolve_arguments l r g s
-  guard-stop h = sym (left_false _ _ (sym e ∙ not-true b h))
-
-  pub guard-last : not b ≡ false → SFits w32 g → (x : Bool) → x ≡ is_guard (to_z w32 (of_z w32 g)) → x ≡ resolve_arguments l r g s
-  guard-last h f x q = and-next (equal_arguments l r s) (is_guard g) x (sym e ∙ not-false b h) (q ∙ ap is_guard (to_z-of_z w32 g f))
+    back : (n : ℕ) → n ≡ 0x7FFF_FFFF → 0x1_0000_0000 - suc n ≡ 0x8000_0000
+    back n e = omega arith
 
 -- RESOLVE_EQUATION
 
--- what a `match` finds that is no refusal
-pub not-refused : (o : StepResult) → ((j : ℕ) → o ≡ step.Refused j → ⊥) → unresolved o ≡ false
-not-refused (step.Done c) k = refl
-not-refused (step.Saturated c) k = refl
-not-refused (step.Conflict c) k = refl
-not-refused (step.Propagate c v w f) k = refl
-not-refused (step.Split c j g i) k = refl
-not-refused (step.Refused j) k = absurd (k j refl)
-
 -- an answer handed on: after a refusal the index is cut
-pub undone-resolved : {t t' : List ℕ} (e h r ks : List ℕ) {n : ℕ} (l : List ℕ) (x : StepResult) {o : StepResult} → CutRefused unresolved t t' n x o → Undone (lent t e h r ks) (lent t' e h r ks) n (resolved x (lent t e h r ks) l) (resolved o (lent t' e h r ks) l)
-undone-resolved e h r ks l (step.Done d) p = given _ _ refl (rw (p.same, p.given refl)) (ap (λ (w : List ℕ). lent w e h r ks) (p.given refl))
-undone-resolved e h r ks l (step.Saturated d) p = given _ _ refl (rw (p.same, p.given refl)) (ap (λ (w : List ℕ). lent w e h r ks) (p.given refl))
-undone-resolved e h r ks l (step.Conflict d) p = given _ _ refl (rw (p.same, p.given refl)) (ap (λ (w : List ℕ). lent w e h r ks) (p.given refl))
-undone-resolved e h r ks l (step.Propagate d v u f) p = given _ _ refl (rw (p.same, p.given refl)) (ap (λ (w : List ℕ). lent w e h r ks) (p.given refl))
-undone-resolved e h r ks l (step.Split d k g i) p = given _ _ refl (rw (p.same, p.given refl)) (ap (λ (w : List ℕ). lent w e h r ks) (p.given refl))
-undone-resolved e h r ks l (step.Refused j) p = cut j refl (rw p.same) (p.refused refl) (record { cells = refl; chars = refl; reasons = refl; keys = refl })
+pub undone-resolved : {t t' : List ℕ} (e h r ks : List ℕ) {n : ℕ} (l : List ℕ) (x : Result StepResult Refusal) {o : Result StepResult Refusal} → CutRefused t t' n x o → Undone (lent t e h r ks) (lent t' e h r ks) n (resolved x (lent t e h r ks) l) (resolved o (lent t' e h r ks) l)
+undone-resolved e h r ks l (Ok (step.Done d)) p = given _ _ refl (rw (p.same, p.given refl)) (ap (λ (w : List ℕ). lent w e h r ks) (p.given refl))
+undone-resolved e h r ks l (Ok (step.Saturated d)) p = given _ _ refl (rw (p.same, p.given refl)) (ap (λ (w : List ℕ). lent w e h r ks) (p.given refl))
+undone-resolved e h r ks l (Ok (step.Conflict d)) p = given _ _ refl (rw (p.same, p.given refl)) (ap (λ (w : List ℕ). lent w e h r ks) (p.given refl))
+undone-resolved e h r ks l (Ok (step.Propagate d v u f)) p = given _ _ refl (rw (p.same, p.given refl)) (ap (λ (w : List ℕ). lent w e h r ks) (p.given refl))
+undone-resolved e h r ks l (Ok (step.Split d k g i)) p = given _ _ refl (rw (p.same, p.given refl)) (ap (λ (w : List ℕ). lent w e h r ks) (p.given refl))
+undone-resolved e h r ks l (Err j) p = cut (number j) refl (rw p.same) (p.refused refl) (record { cells = refl; chars = refl; reasons = refl; keys = refl })
 
 module _ (l r : List ℕ) (g : ℤ) (m : Lent) (c : State) (k : List ℕ) where
   pub resolve-short : length k < list_limit → PublicResolve l r g m m k k c (stop 1)

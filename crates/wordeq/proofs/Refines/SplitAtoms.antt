@@ -1,16 +1,16 @@
 -- The ways of making step 7's atoms: each make goes on from where the one before it ended.
-use Rattle.std.specs.Prelude.{if◌then◌else◌}
 use mathlib.Core.Path.{◌≡◌, refl, sym, ap, ◌∙◌}
-use mathlib.Core.Bool.{Bool, true}
+use mathlib.Core.Bool.{true}
 use mathlib.Core.List.{List, [], ◌∷◌}
 use mathlib.Core.Option.{none}
 use Prim.Native.Nat.{ℕ, ◌≤◌}
 use native.Mathlib.Omega.{arith}
 use lib.ListN.{length, take, set}
-use borrow.Author.Tests.{eq-eqb, ne_eqb, le-leb}
+use borrow.Author.Tests.{le-leb}
 use Rattle.records.specs.declared.State.{State}
-use Rattle.records.specs.declared.Made.{Made}
-use Rattle.records.specs.declared.Made.TheVariants.{Term, Refused}
+use Rattle.std.specs.Prelude.{Ok, Err}
+use Rattle.records.specs.declared.refusal.Refusal.{Refusal}
+use Rattle.records.specs.Refusal.{number}
 use Rattle.records.specs.declared.Named.{Named}
 use Rattle.records.specs.Lists.{all}
 use Rattle.records.specs.Store.{Store, Out, ok, stop, Work, and_then, ◌>>=◌, give, within, is_constant, is_string, text}
@@ -18,7 +18,6 @@ use Rattle.records.specs.View.{Lent, store_of}
 use Rattle.records.specs.Rules.{is_char, named}
 use Rattle.records.specs.Make.{lookup, make_constant, make_variable, make_concat, make_length, make_equation, variable_arguments, concat_arguments, equation_arguments, name_of, take_name}
 use Rattle.records.specs.Working.Audited.{Ready}
-use Rattle.records.specs.Calls.{made}
 use Rattle.records.specs.Working.Doing.{Working, Taken}
 use Rattle.records.proofs.Lists.{both_true}
 use Rattle.records.proofs.Works.{branch}
@@ -30,7 +29,12 @@ use Rattle.sides.specs.Wordeq.{Tried, fresh_variable}
 use Rattle.wordeq.specs.Working.Splits.{prefix_atom, empty_atom, character_atom, lengths_atom, character_atoms, prefix_atoms, head_atoms}
 use Rattle.wordeq.specs.Working.Heads.{atoms_by, atoms_of}
 use Rattle.sides.proofs.Counted.{equatable_strings, equatable_lengths, character_then, heads_then}
-use Rattle.records.proofs.Sequence.{Grows, grows_then, grows-constant, grows-variable, grows-concat, grows-length, grows-equation, grows-give, grows_name, working_then, working_stop, made-is, made_then, made-stop, made-ready, made-stays}
+use Rattle.records.proofs.Sequence.{Grows, grows_then, grows-constant, grows-variable, grows-concat, grows-length, grows-equation, grows-give, grows_name, working_then, working_stop}
+use Rattle.records.proofs.ListLaws.{string-stays}
+
+-- a term that was counted before a make is a string after it, as it was
+pub stays : {w : Work ℕ} {m m₁ : Lent} {c : State} (d : State) {t : ℕ} → Grows w → Working w m m₁ c (ok (store_of m₁ d) t) → (v : ℕ) → is_string (store_of m c) v ≡ true → is_string (store_of m₁ d) v ≡ true
+stays {m = m} {m₁ = m₁} {c = c} d {t = t} g w = string-stays m m₁ c d (g.higher (store_of m c) (store_of m₁ d) t w.says) w.kept.store
 
 -- A FRESH VARIABLE
 
@@ -38,31 +42,29 @@ pub grows-fresh : Grows fresh_variable
 unfolding fresh_variable
 grows-fresh = grows_then grows_name grows-variable
 
-module _ {m : Lent} {c : State} (r : Named) (x : Taken m c r) where
-  abbrev answered : Bool → Out (List ℕ)
-  answered b = if b then ok (store_of m r.state) (take r.len r.name) else stop r.code
-
-  taken-zero : r.code ≡ 0 → Working take_name m m c (ok (store_of m r.state) (take r.len r.name))
-  taken-zero e = working_left x.ready (x.says ∙ ap answered (eq-eqb r.code 0 e)) keeps_same
-
-  pub named-stop : (r.code ≡ 0 → ⊥) → Working fresh_variable m m c (stop r.code)
+module _ {m : Lent} {c : State} where
+  pub named-stop : {e : Refusal} → Taken m c (Err e) → Working fresh_variable m m c (stop (number e))
   unfolding fresh_variable
-  named-stop d = working_stop {w = take_name} make_variable (working_stopped (x.says ∙ ap answered (ne_eqb r.code 0 d)) keeps_same)
+  named-stop x = working_stop {w = take_name} make_variable (working_stopped x.says keeps_same)
 
-  name_of_lem : r.code ≡ 0 → NameTaken (store_of m c) (store_of m r.state) (take r.len r.name)
-  name_of_lem e = name_taken (store_of m c) (store_of m r.state) _ (taken-zero e).says
+  module _ {r : Named} (x : Taken m c (Ok r)) where
+    name-is : Working take_name m m c (ok (store_of m r.state) (take r.len r.name))
+    name-is = working_left x.ready x.says keeps_same
 
-  pub named_arguments : r.code ≡ 0 → variable_arguments (take r.len r.name) (store_of m r.state) ≡ true
-  named_arguments e =
-      let y = name_of_lem e in
-      ap (λ (w : List ℕ). variable_arguments w (store_of m r.state)) y.name_is ∙ both_true _ _ (le-leb 1 (length (name_of y.number)) (name_filled y.number)) (name_characters y.number)
+    name_of_lem : NameTaken (store_of m c) (store_of m r.state) (take r.len r.name)
+    name_of_lem = name_taken (store_of m c) (store_of m r.state) _ name-is.says
 
-  pub named_new : r.code ≡ 0 → lookup (named (take r.len r.name)) (store_of m r.state) ≡ none
-  named_new e = (name_of_lem e).new
+    pub named_arguments : variable_arguments (take r.len r.name) (store_of m r.state) ≡ true
+    named_arguments =
+        let y = name_of_lem in
+        ap (λ (w : List ℕ). variable_arguments w (store_of m r.state)) y.name_is ∙ both_true _ _ (le-leb 1 (length (name_of y.number)) (name_filled y.number)) (name_characters y.number)
 
-  pub named-then : r.code ≡ 0 → {m₁ : Lent} {o : Out ℕ} → Working (make_variable (take r.len r.name)) m m₁ r.state o → Working fresh_variable m m₁ c o
-  unfolding fresh_variable
-  named-then e w = working_then make_variable r.state (take r.len r.name) grows_name (taken-zero e) w
+    pub named_new : lookup (named (take r.len r.name)) (store_of m r.state) ≡ none
+    named_new = name_of_lem.new
+
+    pub named-then : {m₁ : Lent} {o : Out ℕ} → Working (make_variable (take r.len r.name)) m m₁ r.state o → Working fresh_variable m m₁ c o
+    unfolding fresh_variable
+    named-then w = working_then make_variable r.state (take r.len r.name) grows_name name-is w
 
 -- WHAT A MAKE REQUIRES
 
@@ -80,92 +82,90 @@ two_parts_lem s a b p q = both_true (is_string s a) _ p (both_true (is_string s 
 
 -- v = h ++ z
 
-module _ {m m₁ : Lent} {c : State} {r₁ : Made} (v h : ℕ) (w₁ : Working fresh_variable m m₁ c (made r₁ m₁)) where
-  pub prefix_stop : {k : ℕ} → r₁ ≡ Refused k → Working (prefix_atom v h) m m₁ c (stop k)
+module _ {m m₁ : Lent} {c : State} (v h : ℕ) where
+  pub prefix_stop : {k : ℕ} → Working fresh_variable m m₁ c (stop k) → Working (prefix_atom v h) m m₁ c (stop k)
   unfolding prefix_atom
-  prefix_stop e = made-stop (λ z. make_concat (h ∷ z ∷ []) >>= make_equation v) e w₁
+  prefix_stop w = working_stop (λ z. make_concat (h ∷ z ∷ []) >>= make_equation v) w
 
-  module _ {d : State} {z : ℕ} (e₁ : r₁ ≡ Term z d) {m₂ : Lent} {r₂ : Made} (w₂ : Working (make_concat (h ∷ z ∷ [])) m₁ m₂ d (made r₂ m₂)) where
-    pub prefix_stop_2 : {k : ℕ} → r₂ ≡ Refused k → Working (prefix_atom v h) m m₂ c (stop k)
+  module _ {d : State} {z : ℕ} (w₁ : Working fresh_variable m m₁ c (ok (store_of m₁ d) z)) {m₂ : Lent} where
+    pub prefix_stop_2 : {k : ℕ} → Working (make_concat (h ∷ z ∷ [])) m₁ m₂ d (stop k) → Working (prefix_atom v h) m m₂ c (stop k)
     unfolding prefix_atom
-    prefix_stop_2 e = made_then (λ z. make_concat (h ∷ z ∷ []) >>= make_equation v) grows-fresh e₁ w₁ (made-stop (make_equation v) e w₂)
+    prefix_stop_2 w₂ = working_then (λ z. make_concat (h ∷ z ∷ []) >>= make_equation v) d z grows-fresh w₁ (working_stop (make_equation v) w₂)
 
-    pub prefix_done : {t : ℕ} {d₂ : State} {m₃ : Lent} {o : Out ℕ} → r₂ ≡ Term t d₂ → Working (make_equation v t) m₂ m₃ d₂ o → Working (prefix_atom v h) m m₃ c o
+    pub prefix_done : {t : ℕ} {d₂ : State} {m₃ : Lent} {o : Out ℕ} → Working (make_concat (h ∷ z ∷ [])) m₁ m₂ d (ok (store_of m₂ d₂) t) → Working (make_equation v t) m₂ m₃ d₂ o → Working (prefix_atom v h) m m₃ c o
     unfolding prefix_atom
-    prefix_done e₂ w₃ =
-        made_then (λ z. make_concat (h ∷ z ∷ []) >>= make_equation v) grows-fresh e₁ w₁
-        (made_then (make_equation v) (grows-concat (h ∷ z ∷ [])) e₂ w₂ w₃)
+    prefix_done {t} {d₂} w₂ w₃ =
+        working_then (λ z. make_concat (h ∷ z ∷ []) >>= make_equation v) d z grows-fresh w₁
+        (working_then (make_equation v) d₂ t (grows-concat (h ∷ z ∷ [])) w₂ w₃)
 
-module _ {m m₁ : Lent} {c d : State} {z : ℕ} {r₁ : Made} (h : ℕ) (ready : Ready m c) (sh : is_string (store_of m c) h ≡ true) (w₁ : Working fresh_variable m m₁ c (made r₁ m₁)) (e₁ : r₁ ≡ Term z d) where
+module _ {m m₁ : Lent} {c : State} (d : State) {z : ℕ} (h : ℕ) (ready : Ready m c) (sh : is_string (store_of m c) h ≡ true) (w₁ : Working fresh_variable m m₁ c (ok (store_of m₁ d) z)) where
   pub prefix_parts : concat_arguments (h ∷ z ∷ []) (store_of m₁ d) ≡ true
   unfolding fresh_variable within
   prefix_parts =
-      two_parts_lem (store_of m₁ d) h z (made-stays grows-fresh e₁ w₁ h sh) (made-string (fresh_kept (store_of m c) (store_of m₁ d) z ready.audited (made-is e₁ w₁).says).made refl)
+      two_parts_lem (store_of m₁ d) h z (stays d grows-fresh w₁ h sh) (made-string (fresh_kept (store_of m c) (store_of m₁ d) z ready.audited w₁.says).made refl)
 
-  pub prefix_sides : (v : ℕ) → is_string (store_of m c) v ≡ true → {m₂ : Lent} {r₂ : Made} {t : ℕ} {d₂ : State} → Working (make_concat (h ∷ z ∷ [])) m₁ m₂ d (made r₂ m₂) → r₂ ≡ Term t d₂
-      → equation_arguments v t (store_of m₂ d₂) ≡ true
+  pub prefix_sides : (v : ℕ) → is_string (store_of m c) v ≡ true → {m₂ : Lent} {t : ℕ} (d₂ : State) → Working (make_concat (h ∷ z ∷ [])) m₁ m₂ d (ok (store_of m₂ d₂) t) → equation_arguments v t (store_of m₂ d₂) ≡ true
   unfolding within
-  prefix_sides v sv {m₂} {r₂} {t} {d₂} w₂ e₂ =
-      equatable_strings (store_of m₂ d₂) v t (made-stays (grows-concat (h ∷ z ∷ [])) e₂ w₂ v (made-stays grows-fresh e₁ w₁ v sv))
-      (made-string (concat-fit (store_of m₁ d) (store_of m₂ d₂) t (made-ready e₁ w₁).audited (h ∷ z ∷ []) prefix_parts (made-is e₂ w₂).says) refl)
+  prefix_sides v sv {m₂} {t} d₂ w₂ =
+      equatable_strings (store_of m₂ d₂) v t (stays d₂ (grows-concat (h ∷ z ∷ [])) w₂ v (stays d grows-fresh w₁ v sv))
+      (made-string (concat-fit (store_of m₁ d) (store_of m₂ d₂) t (w₁.ready d z refl).audited (h ∷ z ∷ []) prefix_parts w₂.says) refl)
 
 -- v = ""
 
-module _ {m m₁ : Lent} {c : State} {r₁ : Made} (v : ℕ) (w₁ : Working (make_constant []) m m₁ c (made r₁ m₁)) where
-  pub empty-stop : {k : ℕ} → r₁ ≡ Refused k → Working (empty_atom v) m m₁ c (stop k)
+module _ {m m₁ : Lent} {c : State} (v : ℕ) where
+  pub empty-stop : {k : ℕ} → Working (make_constant []) m m₁ c (stop k) → Working (empty_atom v) m m₁ c (stop k)
   unfolding empty_atom
-  empty-stop e = made-stop (make_equation v) e w₁
+  empty-stop w = working_stop (make_equation v) w
 
-  pub empty-done : {d : State} {t : ℕ} {m₂ : Lent} {o : Out ℕ} → r₁ ≡ Term t d → Working (make_equation v t) m₁ m₂ d o → Working (empty_atom v) m m₂ c o
-  unfolding empty_atom
-  empty-done e w₂ = made_then (make_equation v) (grows-constant []) e w₁ w₂
+  module _ (d : State) {t : ℕ} (w₁ : Working (make_constant []) m m₁ c (ok (store_of m₁ d) t)) where
+    pub empty-done : {m₂ : Lent} {o : Out ℕ} → Working (make_equation v t) m₁ m₂ d o → Working (empty_atom v) m m₂ c o
+    unfolding empty_atom
+    empty-done w₂ = working_then (make_equation v) d t (grows-constant []) w₁ w₂
 
-pub empty-sides : {m m₁ : Lent} {c d : State} {r₁ : Made} {t : ℕ} (v : ℕ) → Ready m c → is_string (store_of m c) v ≡ true → Working (make_constant []) m m₁ c (made r₁ m₁) → r₁ ≡ Term t d
-    → equation_arguments v t (store_of m₁ d) ≡ true
-unfolding within
-empty-sides {m} {m₁} {c} {d} {t = t} v ready sv w₁ e =
-    equatable_strings (store_of m₁ d) v t (made-stays (grows-constant []) e w₁ v sv)
-    (made-string (constant-fit (store_of m c) (store_of m₁ d) t ready.audited [] no_characters (made-is e w₁).says) refl)
+    pub empty-sides : Ready m c → is_string (store_of m c) v ≡ true → equation_arguments v t (store_of m₁ d) ≡ true
+    unfolding within
+    empty-sides ready sv =
+        equatable_strings (store_of m₁ d) v t (stays d (grows-constant []) w₁ v sv)
+        (made-string (constant-fit (store_of m c) (store_of m₁ d) t ready.audited [] no_characters w₁.says) refl)
 
 -- v = ch ++ z
 
-module _ {m m₁ : Lent} {c : State} {r₁ : Made} (v ch : ℕ) (w₁ : Working (make_constant (ch ∷ [])) m m₁ c (made r₁ m₁)) where
-  pub character-stop : {k : ℕ} → r₁ ≡ Refused k → Working (character_atom v ch) m m₁ c (stop k)
+module _ {m m₁ : Lent} {c : State} (v ch : ℕ) where
+  pub character-stop : {k : ℕ} → Working (make_constant (ch ∷ [])) m m₁ c (stop k) → Working (character_atom v ch) m m₁ c (stop k)
   unfolding character_atom
-  character-stop e = made-stop (prefix_atom v) e w₁
+  character-stop w = working_stop (prefix_atom v) w
 
-  pub character-done : {d : State} {h : ℕ} {m₂ : Lent} {o : Out ℕ} → r₁ ≡ Term h d → Working (prefix_atom v h) m₁ m₂ d o → Working (character_atom v ch) m m₂ c o
+  pub character-done : {d : State} {h : ℕ} {m₂ : Lent} {o : Out ℕ} → Working (make_constant (ch ∷ [])) m m₁ c (ok (store_of m₁ d) h) → Working (prefix_atom v h) m₁ m₂ d o → Working (character_atom v ch) m m₂ c o
   unfolding character_atom
-  character-done e w₂ = made_then (prefix_atom v) (grows-constant (ch ∷ [])) e w₁ w₂
+  character-done {d} {h} w₁ w₂ = working_then (prefix_atom v) d h (grows-constant (ch ∷ [])) w₁ w₂
 
-pub character-string : {m m₁ : Lent} {c d : State} {r₁ : Made} {h : ℕ} (ch : ℕ) → Ready m c → is_char ch ≡ true → Working (make_constant (ch ∷ [])) m m₁ c (made r₁ m₁) → r₁ ≡ Term h d
-    → is_string (store_of m₁ d) h ≡ true
+pub character-string : {m m₁ : Lent} {c : State} (d : State) {h : ℕ} (ch : ℕ) → Ready m c → is_char ch ≡ true → Working (make_constant (ch ∷ [])) m m₁ c (ok (store_of m₁ d) h) → is_string (store_of m₁ d) h ≡ true
 unfolding within
-character-string {m} {m₁} {c} {d} {h = h} ch ready good w₁ e =
-    made-string (constant-fit (store_of m c) (store_of m₁ d) h ready.audited (ch ∷ []) (one-character ch good) (made-is e w₁).says) refl
+character-string {m} {m₁} {c} d {h = h} ch ready good w₁ =
+    made-string (constant-fit (store_of m c) (store_of m₁ d) h ready.audited (ch ∷ []) (one-character ch good) w₁.says) refl
 
 -- EQUAL LENGTHS
 
-module _ {m m₁ : Lent} {c : State} {r₁ : Made} (a b : ℕ) (w₁ : Working (make_length a) m m₁ c (made r₁ m₁)) where
-  pub lengths-stop : {k : ℕ} → r₁ ≡ Refused k → Working (lengths_atom a b) m m₁ c (stop k)
+module _ {m m₁ : Lent} {c : State} (a b : ℕ) where
+  pub lengths-stop : {k : ℕ} → Working (make_length a) m m₁ c (stop k) → Working (lengths_atom a b) m m₁ c (stop k)
   unfolding lengths_atom
-  lengths-stop e = made-stop (λ la. make_length b >>= make_equation la) e w₁
+  lengths-stop w = working_stop (λ la. make_length b >>= make_equation la) w
 
-  module _ {d : State} {la : ℕ} (e₁ : r₁ ≡ Term la d) {m₂ : Lent} {r₂ : Made} (w₂ : Working (make_length b) m₁ m₂ d (made r₂ m₂)) where
-    pub lengths-stop_2 : {k : ℕ} → r₂ ≡ Refused k → Working (lengths_atom a b) m m₂ c (stop k)
+  module _ {d : State} {la : ℕ} (w₁ : Working (make_length a) m m₁ c (ok (store_of m₁ d) la)) {m₂ : Lent} where
+    pub lengths-stop_2 : {k : ℕ} → Working (make_length b) m₁ m₂ d (stop k) → Working (lengths_atom a b) m m₂ c (stop k)
     unfolding lengths_atom
-    lengths-stop_2 e = made_then (λ la. make_length b >>= make_equation la) (grows-length a) e₁ w₁ (made-stop (make_equation la) e w₂)
+    lengths-stop_2 w₂ = working_then (λ la. make_length b >>= make_equation la) d la (grows-length a) w₁ (working_stop (make_equation la) w₂)
 
-    pub lengths-done : {lb : ℕ} {d₂ : State} {m₃ : Lent} {o : Out ℕ} → r₂ ≡ Term lb d₂ → Working (make_equation la lb) m₂ m₃ d₂ o → Working (lengths_atom a b) m m₃ c o
-    unfolding lengths_atom
-    lengths-done e₂ w₃ = made_then (λ la. make_length b >>= make_equation la) (grows-length a) e₁ w₁ (made_then (make_equation la) (grows-length b) e₂ w₂ w₃)
+    module _ {lb : ℕ} (d₂ : State) (w₂ : Working (make_length b) m₁ m₂ d (ok (store_of m₂ d₂) lb)) where
+      pub lengths-done : {m₃ : Lent} {o : Out ℕ} → Working (make_equation la lb) m₂ m₃ d₂ o → Working (lengths_atom a b) m m₃ c o
+      unfolding lengths_atom
+      lengths-done w₃ = working_then (λ la. make_length b >>= make_equation la) d la (grows-length a) w₁ (working_then (make_equation la) d₂ lb (grows-length b) w₂ w₃)
 
-pub lengths-sides : {m m₁ m₂ : Lent} {c d d₂ : State} {r₁ r₂ : Made} {la lb : ℕ} (a b : ℕ) → Ready m c → is_string (store_of m c) a ≡ true → is_string (store_of m c) b ≡ true
-    → Working (make_length a) m m₁ c (made r₁ m₁) → r₁ ≡ Term la d → Working (make_length b) m₁ m₂ d (made r₂ m₂) → r₂ ≡ Term lb d₂ → equation_arguments la lb (store_of m₂ d₂) ≡ true
-lengths-sides {m} {m₁} {m₂} {c} {d} {d₂} {la = la} {lb = lb} a b ready sa sb w₁ e₁ w₂ e₂ =
-    let x = length-fit (store_of m c) (store_of m₁ d) la ready.audited a sa (made-is e₁ w₁).says in
-    let y = length-fit (store_of m₁ d) (store_of m₂ d₂) lb x.audited b (grown-string x.grown b sb) (made-is e₂ w₂).says in
-    equatable_lengths (store_of m₂ d₂) la lb (grown-kind y.grown la 3 x.kind_is) y.kind_is
+      pub lengths-sides : Ready m c → is_string (store_of m c) a ≡ true → is_string (store_of m c) b ≡ true → equation_arguments la lb (store_of m₂ d₂) ≡ true
+      lengths-sides ready sa sb =
+          let x = length-fit (store_of m c) (store_of m₁ d) la ready.audited a sa w₁.says in
+          let y = length-fit (store_of m₁ d) (store_of m₂ d₂) lb x.audited b (grown-string x.grown b sb) w₂.says in
+          equatable_lengths (store_of m₂ d₂) la lb (grown-kind y.grown la 3 x.kind_is) y.kind_is
 
 -- THE LISTS
 
@@ -220,46 +220,46 @@ three-put (x ∷ y ∷ z ∷ l) p q u h = refl
 given : {m : Lent} {c : State} {l k : List ℕ} → Ready m c → k ≡ l → Working (give l) m m c (ok (store_of m c) k)
 given {m} {c} ready e = working_same ready (ap (ok (store_of m c)) (sym e))
 
-module _ {m m₁ : Lent} {c : State} {r₁ : Made} (v ch : ℕ) (w₁ : Working (empty_atom v) m m₁ c (made r₁ m₁)) where
-  pub characters-stop : {k : ℕ} → r₁ ≡ Refused k → Working (character_atoms v ch) m m₁ c (stop k)
+module _ {m m₁ : Lent} {c : State} (v ch : ℕ) where
+  pub characters-stop : {k : ℕ} → Working (empty_atom v) m m₁ c (stop k) → Working (character_atoms v ch) m m₁ c (stop k)
   unfolding character_atoms
-  characters-stop e = made-stop (λ p. character_atom v ch >>= (λ q. give (p ∷ q ∷ []))) e w₁
+  characters-stop w = working_stop (λ p. character_atom v ch >>= (λ q. give (p ∷ q ∷ []))) w
 
-  module _ {d : State} {p : ℕ} (e₁ : r₁ ≡ Term p d) {m₂ : Lent} {r₂ : Made} (w₂ : Working (character_atom v ch) m₁ m₂ d (made r₂ m₂)) where
-    pub characters-stop_2 : {k : ℕ} → r₂ ≡ Refused k → Working (character_atoms v ch) m m₂ c (stop k)
+  module _ {d : State} {p : ℕ} (w₁ : Working (empty_atom v) m m₁ c (ok (store_of m₁ d) p)) {m₂ : Lent} where
+    pub characters-stop_2 : {k : ℕ} → Working (character_atom v ch) m₁ m₂ d (stop k) → Working (character_atoms v ch) m m₂ c (stop k)
     unfolding character_atoms
-    characters-stop_2 e = made_then (λ p. character_atom v ch >>= (λ q. give (p ∷ q ∷ []))) (grows-empty v) e₁ w₁ (made-stop (λ q. give (p ∷ q ∷ [])) e w₂)
+    characters-stop_2 w₂ = working_then (λ p. character_atom v ch >>= (λ q. give (p ∷ q ∷ []))) d p (grows-empty v) w₁ (working_stop (λ q. give (p ∷ q ∷ [])) w₂)
 
-    pub characters-done : {d₂ : State} {q : ℕ} (l : List ℕ) → 2 ≤ length l → r₂ ≡ Term q d₂ → Working (character_atoms v ch) m m₂ c (ok (store_of m₂ d₂) (take 2 (set (set l 0 p) 1 q)))
+    pub characters-done : (d₂ : State) {q : ℕ} → Working (character_atom v ch) m₁ m₂ d (ok (store_of m₂ d₂) q) → (l : List ℕ) → 2 ≤ length l → Working (character_atoms v ch) m m₂ c (ok (store_of m₂ d₂) (take 2 (set (set l 0 p) 1 q)))
     unfolding character_atoms
-    characters-done {d₂} {q} l h e₂ =
-        made_then (λ p. character_atom v ch >>= (λ q. give (p ∷ q ∷ []))) (grows-empty v) e₁ w₁
-        (made_then (λ q. give (p ∷ q ∷ [])) (grows-character v ch) e₂ w₂ (given (made-ready e₂ w₂) (two-put l p q h)))
+    characters-done d₂ {q} w₂ l h =
+        working_then (λ p. character_atom v ch >>= (λ q. give (p ∷ q ∷ []))) d p (grows-empty v) w₁
+        (working_then (λ q. give (p ∷ q ∷ [])) d₂ q (grows-character v ch) w₂ (given (w₂.ready d₂ q refl) (two-put l p q h)))
 
-module _ {m m₁ : Lent} {c : State} {r₁ : Made} (p a b : ℕ) (w₁ : Working (prefix_atom a b) m m₁ c (made r₁ m₁)) where
-  pub prefixes_stop : {k : ℕ} → r₁ ≡ Refused k → Working (prefix_atoms p a b) m m₁ c (stop k)
+module _ {m m₁ : Lent} {c : State} (p a b : ℕ) where
+  pub prefixes_stop : {k : ℕ} → Working (prefix_atom a b) m m₁ c (stop k) → Working (prefix_atoms p a b) m m₁ c (stop k)
   unfolding prefix_atoms
-  prefixes_stop e = made-stop (λ q. prefix_atom b a >>= (λ u. give (p ∷ q ∷ u ∷ []))) e w₁
+  prefixes_stop w = working_stop (λ q. prefix_atom b a >>= (λ u. give (p ∷ q ∷ u ∷ []))) w
 
-  module _ {d : State} {q : ℕ} (e₁ : r₁ ≡ Term q d) {m₂ : Lent} {r₂ : Made} (w₂ : Working (prefix_atom b a) m₁ m₂ d (made r₂ m₂)) where
-    pub prefixes_stop_2 : {k : ℕ} → r₂ ≡ Refused k → Working (prefix_atoms p a b) m m₂ c (stop k)
+  module _ {d : State} {q : ℕ} (w₁ : Working (prefix_atom a b) m m₁ c (ok (store_of m₁ d) q)) {m₂ : Lent} where
+    pub prefixes_stop_2 : {k : ℕ} → Working (prefix_atom b a) m₁ m₂ d (stop k) → Working (prefix_atoms p a b) m m₂ c (stop k)
     unfolding prefix_atoms
-    prefixes_stop_2 e = made_then (λ q. prefix_atom b a >>= (λ u. give (p ∷ q ∷ u ∷ []))) (grows_prefix a b) e₁ w₁ (made-stop (λ u. give (p ∷ q ∷ u ∷ [])) e w₂)
+    prefixes_stop_2 w₂ = working_then (λ q. prefix_atom b a >>= (λ u. give (p ∷ q ∷ u ∷ []))) d q (grows_prefix a b) w₁ (working_stop (λ u. give (p ∷ q ∷ u ∷ [])) w₂)
 
-    pub prefixes_done : {d₂ : State} {u : ℕ} (l : List ℕ) → 3 ≤ length l → r₂ ≡ Term u d₂ → Working (prefix_atoms p a b) m m₂ c (ok (store_of m₂ d₂) (take 3 (set (set (set l 0 p) 1 q) 2 u)))
+    pub prefixes_done : (d₂ : State) {u : ℕ} → Working (prefix_atom b a) m₁ m₂ d (ok (store_of m₂ d₂) u) → (l : List ℕ) → 3 ≤ length l → Working (prefix_atoms p a b) m m₂ c (ok (store_of m₂ d₂) (take 3 (set (set (set l 0 p) 1 q) 2 u)))
     unfolding prefix_atoms
-    prefixes_done {d₂} {u} l h e₂ =
-        made_then (λ q. prefix_atom b a >>= (λ u. give (p ∷ q ∷ u ∷ []))) (grows_prefix a b) e₁ w₁
-        (made_then (λ u. give (p ∷ q ∷ u ∷ [])) (grows_prefix b a) e₂ w₂ (given (made-ready e₂ w₂) (three-put l p q u h)))
+    prefixes_done d₂ {u} w₂ l h =
+        working_then (λ q. prefix_atom b a >>= (λ u. give (p ∷ q ∷ u ∷ []))) d q (grows_prefix a b) w₁
+        (working_then (λ u. give (p ∷ q ∷ u ∷ [])) d₂ u (grows_prefix b a) w₂ (given (w₂.ready d₂ u refl) (three-put l p q u h)))
 
-module _ {m m₁ : Lent} {c : State} {r₁ : Made} (a b : ℕ) (w₁ : Working (lengths_atom a b) m m₁ c (made r₁ m₁)) where
-  pub heads-stop : {k : ℕ} → r₁ ≡ Refused k → Working (head_atoms a b) m m₁ c (stop k)
+module _ {m m₁ : Lent} {c : State} (a b : ℕ) where
+  pub heads-stop : {k : ℕ} → Working (lengths_atom a b) m m₁ c (stop k) → Working (head_atoms a b) m m₁ c (stop k)
   unfolding head_atoms
-  heads-stop e = made-stop (λ p. prefix_atoms p a b) e w₁
+  heads-stop w = working_stop (λ p. prefix_atoms p a b) w
 
-  pub heads_done : {d : State} {p : ℕ} {m₂ : Lent} {o : Out (List ℕ)} → r₁ ≡ Term p d → Working (prefix_atoms p a b) m₁ m₂ d o → Working (head_atoms a b) m m₂ c o
+  pub heads_done : {d : State} {p : ℕ} {m₂ : Lent} {o : Out (List ℕ)} → Working (lengths_atom a b) m m₁ c (ok (store_of m₁ d) p) → Working (prefix_atoms p a b) m₁ m₂ d o → Working (head_atoms a b) m m₂ c o
   unfolding head_atoms
-  heads_done e w₂ = made_then (λ p. prefix_atoms p a b) (grows-lengths a b) e w₁ w₂
+  heads_done {d} {p} w₁ w₂ = working_then (λ p. prefix_atoms p a b) d p (grows-lengths a b) w₁ w₂
 
 -- THE SPLITS: their atoms, and what is done with them
 

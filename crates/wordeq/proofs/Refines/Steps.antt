@@ -2,17 +2,20 @@
 use Rattle.std.specs.Prelude.{if◌then◌else◌}
 use mathlib.Core.Path.{◌≡◌, refl, sym, ap, subst, ◌∙◌}
 use mathlib.Core.Bool.{Bool, true, false}
-use mathlib.Core.List.{List, [], ◌∷◌}
+use mathlib.Core.List.{List, []}
 use mathlib.Core.Option.{Option, none, some}
 use Prim.Native.Nat.{ℕ, ◌-◌, ◌*◌, ◌^◌, ◌≤◌, ◌<◌}
 use native.Mathlib.Omega.{arith}
 use lib.ListN.{length, drop, length-append, length-take, length-drop}
 use lib.IntN.{ℤ}
-use lib.Dec.{eqb, leb}
-use borrow.Author.Tests.{ne_eqb, le-leb}
+use lib.Dec.{leb}
+use borrow.Author.Tests.{le-leb}
 use Rattle.records.specs.declared.State.{State}
+use Rattle.std.specs.Prelude.{Result, Ok, Err}
+use Rattle.records.specs.declared.refusal.Refusal.{Refusal}
+use Rattle.records.specs.Refusal.{number}
 use Rattle.records.specs.Lists.{all, any}
-use Rattle.records.specs.Store.{Store, Out, ok, and_then, is_string}
+use Rattle.records.specs.Store.{Store, Out, ok, stop, and_then, is_string}
 use Rattle.records.specs.View.{Lent, store_of, read_in}
 use Rattle.records.specs.Rules.{list_limit}
 use Rattle.records.specs.Working.Audited.{Ready}
@@ -23,20 +26,19 @@ use Rattle.records.proofs.LaterStores.{Added}
 use Rattle.sides.specs.declared.StepResult.{StepResult}
 use Rattle.sides.specs.declared.StepResult.TheVariants as step
 use Rattle.sides.specs.declared.Stripped.{Stripped}
-use Rattle.sides.specs.declared.Stripped.TheVariants.{Parts, Refused}
 use Rattle.sides.specs.Wordeq.{Answer, done, Tried, answer, ◌or_else◌, clashes, splits, after, is_bare, or_done, matches, needs_reason, strip, steps}
 use Rattle.sides.specs.Working.Results.{tried, Tries}
 use Rattle.wordeq.specs.Calls.{resolved}
 use Rattle.sides.specs.Working.Sides.{Spelled}
 use Rattle.wordeq.specs.Working.Heads.{HeadsApart}
-use Rattle.sides.specs.Working.Stripping.{part, stripped, Inside, Needed, Strips}
+use Rattle.sides.specs.Working.Stripping.{part, Strips}
 use Rattle.sides.proofs.Strip.{strip-ends}
 use Rattle.sides.proofs.Strip as strip
 use Rattle.wordeq.proofs.Refines.Heads.{heads-apart}
 use Rattle.records.proofs.Counts.{Higher}
 use Rattle.records.proofs.IndexStores.{keeps_then}
 use Rattle.sides.proofs.ConstantSides.{constants_need, constants-conflict, constants-pass}
-use Rattle.sides.proofs.Trying.{Lined, Last, occurs_both, conflicts, propagates, tiles, grouped, both-rises, conflicts-rises, propagates-rises, tiles-rises, after_groups, passed-ready, else_works, else_tries, else_last}
+use Rattle.sides.proofs.Trying.{Lined, Last, occurs_both, conflicts, propagates, tiles, grouped, both-rises, conflicts-rises, propagates-rises, tiles-rises, after_groups, passed-ready, else_works, else_tries, else_last, else_refused}
 use Rattle.records.proofs.ListLaws.{list-short, list_every}
 use Rattle.records.proofs.Works.{one_store}
 use Rattle.sides.specs.Working.Lacking.{conflicts as lacks}
@@ -47,11 +49,11 @@ use Rattle.sides.specs.Working.Lacking.{conflicts as lacks}
 pub lined_read_in : {l r : List ℕ} {m : Lent} {c : State} → Lined l r m c → Spelled m.terms m.chars c × (length l ≤ list_limit) × (length r ≤ list_limit)
 lined_read_in {l} {r} {m} {c} x = constants_need m c l r x.ready x.lists
 
-module _ (l r : List ℕ) {m m₁ : Lent} {c d : State} {o : StepResult} (w : Tries (occurs_both l r) m m₁ c o) (e : o ≡ step.Done d) (b : Bool) (h : b ≡ lacks (read_in m₁.terms m₁.chars d) l r) where
-  pub conflicts-found : b ≡ true → Tries (conflicts l r) m m₁ c (step.Conflict d)
+module _ (l r : List ℕ) {m m₁ : Lent} {c d : State} {o : StepResult} (w : Tries (occurs_both l r) m m₁ c (Ok o)) (e : o ≡ step.Done d) (b : Bool) (h : b ≡ lacks (read_in m₁.terms m₁.chars d) l r) where
+  pub conflicts-found : b ≡ true → Tries (conflicts l r) m m₁ c (Ok (step.Conflict d))
   conflicts-found z = else_tries (both-rises l r) w e (constants-conflict m₁ d l r (passed-ready (both-rises l r) w e) b h z)
 
-  pub conflicts-none : b ≡ false → Tries (conflicts l r) m m₁ c (step.Done d)
+  pub conflicts-none : b ≡ false → Tries (conflicts l r) m m₁ c (Ok (step.Done d))
   conflicts-none z = else_tries (both-rises l r) w e (constants-pass m₁ d l r (passed-ready (both-rises l r) w e) b h z)
 
 -- STEPS 2 TO 7
@@ -60,36 +62,40 @@ module _ (l r : List ℕ) (g : ℤ) (needed : Bool) where
   regrouped : {m m₁ : Lent} {c : State} {o : Out (Option Answer)} → Working (grouped l r g needed) m m₁ c o → Working (after g needed l r) m m₁ c o
   regrouped {m} {m₁} {c} {o} w = subst (λ (x : Tried). Working x m m₁ c o) (after_groups l r g needed) w
 
-  module _ {m₀ m₁ : Lent} {c : State} {o₁ : StepResult} (w₁ : Tries (conflicts l r) m₀ m₁ c o₁) where
-    pub after_early : Last o₁ → (k : List ℕ) → Working (after g needed l r) m₀ m₁ c (tried o₁ m₁ k)
+  pub after-refused : {m₀ m₁ : Lent} {c : State} {u : Refusal} → Tries (conflicts l r) m₀ m₁ c (Err u) → Working (after g needed l r) m₀ m₁ c (stop (number u))
+  after-refused w = regrouped ((else_refused (propagates l r or_else (tiles l r or_else (clashes l r or_else splits g needed l r))) w).is [])
+
+  module _ {m₀ m₁ : Lent} {c : State} {o₁ : StepResult} (w₁ : Tries (conflicts l r) m₀ m₁ c (Ok o₁)) where
+    pub after_early : Last o₁ → (k : List ℕ) → Working (after g needed l r) m₀ m₁ c (tried (Ok o₁) m₁ k)
     after_early z k = regrouped ((else_last (propagates l r or_else (tiles l r or_else (clashes l r or_else splits g needed l r))) z w₁).is k)
 
-    module _ {d : State} (e₁ : o₁ ≡ step.Done d) {m₂ : Lent} {o₂ : StepResult} (w₂ : Tries (propagates l r) m₁ m₂ d o₂) where
-      pub after-known : Last o₂ → (k : List ℕ) → Working (after g needed l r) m₀ m₂ c (tried o₂ m₂ k)
-      after-known z k = regrouped ((else_tries (conflicts-rises l r) w₁ e₁ (else_last (tiles l r or_else (clashes l r or_else splits g needed l r)) z w₂)).is k)
+    module _ {d : State} (e₁ : o₁ ≡ step.Done d) {m₂ : Lent} where
+      pub after-refused_2 : {u : Refusal} → Tries (propagates l r) m₁ m₂ d (Err u) → Working (after g needed l r) m₀ m₂ c (stop (number u))
+      after-refused_2 w = regrouped ((else_tries (conflicts-rises l r) w₁ e₁ (else_refused (tiles l r or_else (clashes l r or_else splits g needed l r)) w)).is [])
 
-      module _ {e : State} (e₂ : o₂ ≡ step.Done e) {m₃ : Lent} {o₃ : StepResult} (w₃ : Tries (tiles l r) m₂ m₃ e o₃) where
-        pub after_tiled : Last o₃ → (k : List ℕ) → Working (after g needed l r) m₀ m₃ c (tried o₃ m₃ k)
-        after_tiled z k =
-            regrouped ((else_tries (conflicts-rises l r) w₁ e₁ (else_tries (propagates-rises l r) w₂ e₂
-            (else_last (clashes l r or_else splits g needed l r) z w₃))).is k)
+      module _ {o₂ : StepResult} (w₂ : Tries (propagates l r) m₁ m₂ d (Ok o₂)) where
+        pub after-known : Last o₂ → (k : List ℕ) → Working (after g needed l r) m₀ m₂ c (tried (Ok o₂) m₂ k)
+        after-known z k = regrouped ((else_tries (conflicts-rises l r) w₁ e₁ (else_last (tiles l r or_else (clashes l r or_else splits g needed l r)) z w₂)).is k)
 
-        -- the guard is handed on as its bits are read
-        pub after-split : {h : ℤ} → h ≡ g → {f : State} {m₄ : Lent} {o : Out (Option Answer)} → o₃ ≡ step.Done f → Working (clashes l r or_else splits h needed l r) m₃ m₄ f o → Working (after g needed l r) m₀ m₄ c o
-        after-split q {f} {m₄} {o} e₃ v =
-            regrouped (else_works (conflicts-rises l r) w₁ e₁ (else_works (propagates-rises l r) w₂ e₂ (else_works (tiles-rises l r) w₃ e₃
-            (subst (λ (z : ℤ). Working (clashes l r or_else splits z needed l r) m₃ m₄ f o) q v))))
+        module _ {e : State} (e₂ : o₂ ≡ step.Done e) {m₃ : Lent} where
+          pub after-refused_3 : {u : Refusal} → Tries (tiles l r) m₂ m₃ e (Err u) → Working (after g needed l r) m₀ m₃ c (stop (number u))
+          after-refused_3 w =
+              regrouped ((else_tries (conflicts-rises l r) w₁ e₁ (else_tries (propagates-rises l r) w₂ e₂
+              (else_refused (clashes l r or_else splits g needed l r) w))).is [])
+
+          module _ {o₃ : StepResult} (w₃ : Tries (tiles l r) m₂ m₃ e (Ok o₃)) where
+            pub after_tiled : Last o₃ → (k : List ℕ) → Working (after g needed l r) m₀ m₃ c (tried (Ok o₃) m₃ k)
+            after_tiled z k =
+                regrouped ((else_tries (conflicts-rises l r) w₁ e₁ (else_tries (propagates-rises l r) w₂ e₂
+                (else_last (clashes l r or_else splits g needed l r) z w₃))).is k)
+
+            -- the guard is handed on as its bits are read
+            pub after-split : {h : ℤ} → h ≡ g → {f : State} {m₄ : Lent} {o : Out (Option Answer)} → o₃ ≡ step.Done f → Working (clashes l r or_else splits h needed l r) m₃ m₄ f o → Working (after g needed l r) m₀ m₄ c o
+            after-split q {f} {m₄} {o} e₃ v =
+                regrouped (else_works (conflicts-rises l r) w₁ e₁ (else_works (propagates-rises l r) w₂ e₂ (else_works (tiles-rises l r) w₃ e₃
+                (subst (λ (z : ℤ). Working (clashes l r or_else splits z needed l r) m₃ m₄ f o) q v))))
 
 -- STEP 1 FIRST
-
-pub not-bare : (l r : List ℕ) → (length l ≡ 0 → ⊥) → false ≡ is_bare l r
-not-bare [] r z = absurd (z refl)
-not-bare (a ∷ l) r z = refl
-
-pub bare-right : (l r : List ℕ) → length l ≡ 0 → eqb (length r) 0 ≡ is_bare l r
-bare-right [] [] z = refl
-bare-right [] (b ∷ r) z = ne_eqb (length (b ∷ r)) 0 (λ e. omega arith)
-bare-right (a ∷ l) r z = absurd (omega arith)
 
 higher-added : {s s₁ : Store} → Added s s₁ → Higher s s₁
 higher-added {s} a =
@@ -100,13 +106,13 @@ part-short : (l : List ℕ) (i x : ℕ) → length (part l i x) ≤ length l
 part-short l i x = let p = length-take (x - i) (drop i l) in let q = length-drop i l in omega arith
 
 -- an answer, or 8. 'Done otherwise.'
-finished : (o : StepResult) (m : Lent) (k : List ℕ) → and_then or_done (tried o m k) ≡ resolved o m k
-finished (step.Done c) m k = refl
-finished (step.Saturated c) m k = refl
-finished (step.Conflict c) m k = refl
-finished (step.Propagate c v w f) m k = refl
-finished (step.Split c n g j) m k = refl
-finished (step.Refused n) m k = refl
+finished : (o : Result StepResult Refusal) (m : Lent) (k : List ℕ) → and_then or_done (tried o m k) ≡ resolved o m k
+finished (Ok (step.Done c)) m k = refl
+finished (Ok (step.Saturated c)) m k = refl
+finished (Ok (step.Conflict c)) m k = refl
+finished (Ok (step.Propagate c v w f)) m k = refl
+finished (Ok (step.Split c n g j)) m k = refl
+finished (Err e) m k = refl
 
 or_done_lem : (a : Option Answer) (s s' : Store) (x : Answer) → or_done a s ≡ ok s' x → s ≡ s'
 or_done_lem none s s' x e = one_store e
@@ -116,17 +122,32 @@ or_done_lem (some y) s s' x e = one_store e
 pub lined_strings : {l r : List ℕ} {m : Lent} {c : State} → Lined l r m c → (all (is_string (read_in m.terms m.chars c)) l ≡ true) × (all (is_string (read_in m.terms m.chars c)) r ≡ true)
 lined_strings {l} {r} {m} {c} x = (both_right (leb (length l) list_limit) _ x.lists.left, both_right (leb (length r) list_limit) _ x.lists.right)
 
-module _ (g : ℤ) (l r : List ℕ) {m m₁ : Lent} {c : State} {y : Stripped} (w : Strips m m₁ c l r y) where
-  pub steps-refused : (k : ℕ) → y ≡ Refused k → (ks : List ℕ) → Working (steps g l r) m m₁ c (resolved (step.Refused k) m₁ ks)
+module _ (g : ℤ) (l r : List ℕ) {m m₁ : Lent} {c : State} where
+  pub steps-refused : {u : Refusal} → Strips m m₁ c l r (Err u) → Working (steps g l r) m m₁ c (stop (number u))
   unfolding steps
-  steps-refused k j ks = working_stopped (rw (w.is.says ∙ ap (λ (o : Stripped). stripped o m₁ l r) j)) w.is.kept
+  steps-refused w = working_stopped (rw w.is.says) w.is.kept
 
-  module _ {d : State} {i p q : ℕ} {f : Bool} (j : y ≡ Parts d i p q f) where
+  module _ {y : Stripped} (w : Strips m m₁ c l r (Ok y)) where
+    abbrev d : State
+    d = y.counts
+
+    abbrev i : ℕ
+    i = y.rest.from
+
+    abbrev p : ℕ
+    p = y.rest.lhs
+
+    abbrev q : ℕ
+    q = y.rest.rhs
+
+    abbrev f : Bool
+    f = y.needed
+
     pub parts-inside : (i ≤ p) × (p ≤ length l) × (i ≤ q) × (q ≤ length r)
-    parts-inside = subst (λ (o : Stripped). Inside o l r) j w.inside
+    parts-inside = w.inside
 
     stripping : Working (strip l r) m m₁ c (ok (store_of m₁ d) (part l i p, part r i q))
-    stripping = working_at (ap (λ (o : Stripped). stripped o m₁ l r) j) w.is
+    stripping = w.is
 
     -- for the steps that follow
     parts-ready : Ready m₁ d
@@ -143,9 +164,9 @@ module _ (g : ℤ) (l r : List ℕ) {m m₁ : Lent} {c : State} {y : Stripped} (
     opened = rw stripping.says
 
     counted : is_bare (part l i p) (part r i q) ≡ false → f ≡ asked
-    counted z = (subst (λ (o : Stripped). Needed m c l r o) j w.needs).is z
+    counted z = w.needs.is z
 
-    pub steps-bare : (b : Bool) → b ≡ is_bare (part l i p) (part r i q) → b ≡ true → (k : List ℕ) → Working (steps g l r) m m₁ c (resolved (step.Done d) m₁ k)
+    pub steps-bare : (b : Bool) → b ≡ is_bare (part l i p) (part r i q) → b ≡ true → (k : List ℕ) → Working (steps g l r) m m₁ c (resolved (Ok (step.Done d)) m₁ k)
     steps-bare b e z k = working_left parts-ready (opened ∙ ap (λ (x : Bool). rest x asked) (sym e ∙ z)) w.is.kept
 
     module _ (x : Lined l r m c) where
@@ -178,7 +199,7 @@ module _ (g : ℤ) (l r : List ℕ) {m m₁ : Lent} {c : State} {y : Stripped} (
       pub parts_apart : HeadsApart (part l i p) (part r i q)
       parts_apart = heads-apart (part l i p) (part r i q) off.apart
 
-      pub steps_after : (b : Bool) → b ≡ is_bare (part l i p) (part r i q) → b ≡ false → {h : ℤ} → h ≡ g → {m₂ : Lent} (o : StepResult) (k : List ℕ) → Working (after h f (part l i p) (part r i q)) m₁ m₂ d (tried o m₂ k) → Working (steps g l r) m m₂ c (resolved o m₂ k)
+      pub steps_after : (b : Bool) → b ≡ is_bare (part l i p) (part r i q) → b ≡ false → {h : ℤ} → h ≡ g → {m₂ : Lent} (o : Result StepResult Refusal) (k : List ℕ) → Working (after h f (part l i p) (part r i q)) m₁ m₂ d (tried o m₂ k) → Working (steps g l r) m m₂ c (resolved o m₂ k)
       steps_after b e z n {m₂} o k v =
           let u = working_at (finished o m₂ k) (working_answer or_done or_done_lem v) in
           record {

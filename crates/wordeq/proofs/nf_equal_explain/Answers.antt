@@ -1,31 +1,24 @@
+use Rattle.records.proofs.Public.{handed, numbered}
 use mathlib.Core.Path.{refl}
 use Rattle.records.specs.View.{lent}
-use Rattle.wordeq.proofs.Refines.EqualCalls.{explain_unready, explain-unfit, explain-ready, explain-left, explain-right, explain-lengths, explain_called}
+use Rattle.wordeq.proofs.Refines.EqualCalls.{explain_unready, explain-unfit, explain-ready, explain_called}
 use Rattle.wordeq.proofs.nf_equal_explain.Goals as goal
 
-pub returns-then-k-ne0 : goal.returns-then-k-ne0
-returns-then-k-ne0 c =
-    explain_unready _ _ _ _ _ c.audit-k.ensures c.if-k-ne0.true
+pub returns-in_err-audit : goal.returns-in_err-audit
+returns-in_err-audit c =
+    rw (handed _ c.from_residual.ensures.1) (explain_unready _ _ _ _ _ c.in_err-audit.ensures (numbered _))
 
 pub returns-then-not-can_pair : goal.returns-then-not-can_pair
 returns-then-not-can_pair c =
-    explain-unfit _ _ _ _ _ c.audit-k.ensures c.if-k-ne0.false _ c.can_pair.ensures c.if-not-can_pair.true-raw
+    explain-unfit _ _ _ _ _ c.in_ok-audit.ensures refl _ c.can_pair.ensures c.if-not-can_pair.true-raw
 
-pub nf_equal_explain_unchecked-requires : goal.nf_equal_explain_unchecked-requires
-nf_equal_explain_unchecked-requires c =
+pub nf_equal_explain_unchecked-requires-clause-ready : goal.nf_equal_explain_unchecked-requires-clause-ready
+nf_equal_explain_unchecked-requires-clause-ready c =
     let by-lent = lent c.args.terms.now c.args.cells.now c.args.chars.now c.args.reasons.now c.args.keys.now in
-    record {
-      ready = explain-ready by-lent c.args.c c.args.lhs.now c.args.rhs.now _ c.audit-k.ensures c.if-k-ne0.false _
-          c.can_pair.ensures c.if-not-can_pair.false-raw;
-      lhs_value = explain-left by-lent c.args.c c.args.lhs.now c.args.rhs.now _ c.audit-k.ensures c.if-k-ne0.false _
-          c.can_pair.ensures c.if-not-can_pair.false-raw;
-      rhs_value = explain-right by-lent c.args.c c.args.lhs.now c.args.rhs.now _ c.audit-k.ensures c.if-k-ne0.false _
-          c.can_pair.ensures c.if-not-can_pair.false-raw;
-      lhs_len = explain-lengths by-lent c.args.c c.args.lhs.now c.args.rhs.now _ c.audit-k.ensures c.if-k-ne0.false _
-          c.can_pair.ensures c.if-not-can_pair.false-raw;
-    }
+    explain-ready by-lent c.args.c c.args.lhs.now c.args.rhs.now _ c.in_ok-audit.ensures refl _
+    c.can_pair.ensures c.if-not-can_pair.false-raw
 
 pub returns : goal.returns
 returns c =
-    explain_called _ _ _ _ _ c.audit-k.ensures c.if-k-ne0.false _ c.can_pair.ensures c.if-not-can_pair.false-raw _ _ refl
+    explain_called _ _ _ _ _ c.in_ok-audit.ensures refl _ c.can_pair.ensures c.if-not-can_pair.false-raw _ _ refl
     c.nf_equal_explain_unchecked.ensures

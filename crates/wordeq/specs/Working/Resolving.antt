@@ -29,7 +29,6 @@ soft (step.Saturated d) = step.Saturated d
 soft (step.Conflict d) = step.Saturated d
 soft (step.Propagate d v w f) = step.Propagate d v w f
 soft (step.Split d n g j) = step.Split d n g j
-soft (step.Refused k) = step.Refused k
 
 -- 'Conflict and Propagate end with the incoming reasons and those added; other answers return the incoming count.'
 abbrev pub closing : ℕ → StepResult → StepResult
@@ -38,4 +37,3 @@ closing n (step.Saturated d) = step.Saturated (reasons_at d n)
 closing n (step.Conflict d) = step.Conflict d
 closing n (step.Propagate d v w f) = step.Propagate d v w f
 closing n (step.Split d k g j) = step.Split (reasons_at d n) k g j
-closing n (step.Refused k) = step.Refused k

@@ -1,16 +1,17 @@
 -- Working definitions: the atoms of step 7, one at a time.
-use Rattle.std.specs.Prelude.{List, [], ◌∷◌, ℕ, take}
+use Rattle.std.specs.Prelude.{List, [], ◌∷◌, ℕ, take, Result, Ok, Err}
+use Rattle.records.specs.declared.State.{State}
+use Rattle.records.specs.declared.refusal.Refusal.{Refusal}
+use Rattle.records.specs.Refusal.{number}
 use Rattle.records.specs.Store.{Out, ok, stop, Work, ◌>>=◌, give}
 use Rattle.records.specs.View.{Lent, store_of}
-use Rattle.normalize.specs.declared.Form.{Form}
-use Rattle.normalize.specs.declared.Form.TheVariants as form
 use Rattle.records.specs.Make.{make_constant, make_concat, make_length, make_equation}
 use Rattle.sides.specs.Wordeq.{fresh_variable}
 
 -- the atoms answered, from the start of the list
-abbrev pub listed : Form → Lent → List ℕ → Out (List ℕ)
-listed (form.List n c) m l = ok (store_of m c) (take n l)
-listed (form.Refused k) m l = stop k
+abbrev pub listed : Result (ℕ × State) Refusal → Lent → List ℕ → Out (List ℕ)
+listed (Ok x) m l = ok (store_of m x.1) (take x.0 l)
+listed (Err e) m l = stop (number e)
 
 -- v = h ++ z
 unfoldable pub prefix_atom : ℕ → ℕ → Work ℕ

@@ -1,20 +1,19 @@
 use mathlib.Core.Path.{sym, ◌∙◌}
-use borrow.Author.Tests.{not-true, not-false}
 use Rattle.capi.proofs.Standings.{marks-short, tracks_narrow, join_exported}
 use Rattle.capi.proofs.marks.labels_join.Goals as goal
 
 pub returns-then-not-is_roomy : goal.returns-then-not-is_roomy
 returns-then-not-is_roomy c =
-    marks-short _ _ _ _ _ (sym c.is_roomy.ensures ∙ not-true _ c.if-not-is_roomy.true-raw)
+    marks-short _ _ _ _ _ (sym c.is_roomy.ensures ∙ c.if-not-is_roomy.true) c.from.ensures
 
 pub tell_number-requires : goal.tell_number-requires
 tell_number-requires c =
     record {
-      fact_1 = sym c.is_roomy.ensures ∙ not-false _ c.if-not-is_roomy.false-raw;
-      fact_2 = tracks_narrow c.join-told.ensures.tracks;
+      room = sym c.is_roomy.ensures ∙ c.if-not-is_roomy.false;
+      narrow = tracks_narrow c.join-told.ensures.tracks;
     }
 
 pub returns : goal.returns
 returns c =
     join_exported c.state_of-c.ensures c.standing_of-d.ensures c.join-told.ensures
-    (sym c.is_roomy.ensures ∙ not-false _ c.if-not-is_roomy.false-raw) c.tell_number.ensures
+    (sym c.is_roomy.ensures ∙ c.if-not-is_roomy.false) c.tell_number.ensures

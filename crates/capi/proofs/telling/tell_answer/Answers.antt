@@ -1,4 +1,4 @@
-use Rattle.capi.proofs.Words.{told-by, told_as, told-refuses}
+use Rattle.capi.proofs.Words.{flag_from, told-by, told_as}
 use Rattle.capi.specs.Working.Leaves.{answer_telling}
 use mathlib.Core.Path.{ap, ◌∙◌}
 use mathlib.Core.List.{[], ◌∷◌}
@@ -47,14 +47,10 @@ returns-in-Conflict c =
 
 pub returns-in-Propagate : goal.returns-in-Propagate
 returns-in-Propagate c =
-    told_as (ap answer_telling c.in-Propagate.is) c.tell_words-in-Propagate.ensures.is (ap (λ (x : ℕ). 3 ∷ c.in-Propagate.v ∷ c.in-Propagate.w ∷ x ∷ []) c.flag_of.ensures)
+    told_as (ap answer_telling c.in-Propagate.is) c.tell_words-in-Propagate.ensures.is (ap (λ (x : ℕ). 3 ∷ c.in-Propagate.v ∷ c.in-Propagate.w ∷ x ∷ []) (c.from.ensures ∙ flag_from _))
 
 pub returns-in-Split : goal.returns-in-Split
 returns-in-Split c =
     told_as (ap answer_telling c.in-Split.is) c.tell_words-in-Split.ensures.is
     (ap (λ (x : ℕ). 4 ∷ c.in-Split.n ∷ x ∷ c.in-Split.k ∷ [])
-    (c.bits_of.ensures ∙ ap (of_z w32) (to_z-of_z w32 _ (c.requires.1.split _ _ _ _ c.in-Split.is).guard)))
-
-pub returns-in-Refused : goal.returns-in-Refused
-returns-in-Refused c =
-    told-refuses (ap answer_telling c.in-Refused.is)
+    (c.cast_unsigned.ensures ∙ ap (of_z w32) (to_z-of_z w32 _ (c.requires.1.split _ _ _ _ c.in-Split.is).guard)))

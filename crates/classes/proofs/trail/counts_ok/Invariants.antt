@@ -1,10 +1,6 @@
-use Prim.Native.Nat.{◌-◌}
 use lib.ListN.{get_or}
 use Rattle.classes.proofs.Refines.Counting.{Rising}
 use Rattle.classes.proofs.trail.counts_ok.Given as goal
 
-abbrev pub invariant-loop-i : goal.invariant-loop-i
-invariant-loop-i l = Rising (λ j. get_or l.marks j 0) l.d.joins l.d.marks l.last l.i
-
-abbrev pub decreases-loop-i : goal.decreases-loop-i
-decreases-loop-i l = l.d.marks - l.i
+abbrev pub invariant-loop-n : goal.invariant-loop-n
+invariant-loop-n l = Rising (λ j. get_or l.marks j 0) l.d.joins l.d.marks l.last l.n-index

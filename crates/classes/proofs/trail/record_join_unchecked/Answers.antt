@@ -1,5 +1,3 @@
-use lib.ListN.{length-set}
-use native.Mathlib.Omega.{arith}
 use Rattle.classes.proofs.Refines.Trails.{record-none, record_one}
 use borrow.Author.Rules.{rules}
 use Rattle.classes.proofs.trail.record_join_unchecked.Goals as goal
@@ -8,14 +6,6 @@ pub returns-then-d-eq0 : goal.returns-then-d-eq0
 returns-then-d-eq0 c =
     search (rules, record-none)
 
-pub bounds-marks-at-2 : goal.bounds-marks-at-2
-bounds-marks-at-2 c =
-    simp length-set (omega arith)
-
-pub bounds-marks-at-3 : goal.bounds-marks-at-3
-bounds-marks-at-3 c =
-    simp length-set (omega arith)
-
 pub returns : goal.returns
 returns c =
-    record_one c.args.marks.now c.args.d c.requires.fact_1 c.args.child c.args.old c.args.under c.requires.fact_2 c.if-d-eq0.false
+    record_one _ _ c.requires.sized _ _ _ c.requires.room c.if-d-eq0.false

@@ -1,14 +1,12 @@
-use Rattle.classes.proofs.Refines.Trails.{sizes-marks, sizes-joins, sizes-last}
+use Rattle.std.proofs.lemmas.Grind.{common_steps}
+use Rattle.std.proofs.Common.{arith}
+use Rattle.classes.specs.Marks.{trail_sizes}
 use Rattle.classes.proofs.trail.trail_sizes.Goals as goal
 
-pub returns-then-d-gt-MARK_LIMIT : goal.returns-then-d-gt-MARK_LIMIT
-returns-then-d-gt-MARK_LIMIT c =
-    sizes-marks _ _ c.if-d-gt-MARK_LIMIT.true
+pub returns-then-d-le-JOIN_LIMIT : goal.returns-then-d-le-JOIN_LIMIT
+unfolding trail_sizes
+returns-then-d-le-JOIN_LIMIT c = grind (arith, common_steps)
 
-pub returns-then-d-gt-JOIN_LIMIT : goal.returns-then-d-gt-JOIN_LIMIT
-returns-then-d-gt-JOIN_LIMIT c =
-    sizes-joins _ _ c.if-d-gt-MARK_LIMIT.false c.if-d-gt-JOIN_LIMIT.true
-
-pub returns : goal.returns
-returns c =
-    sizes-last _ _ c.if-d-gt-MARK_LIMIT.false c.if-d-gt-JOIN_LIMIT.false
+pub returns-else-d-le-JOIN_LIMIT : goal.returns-else-d-le-JOIN_LIMIT
+unfolding trail_sizes
+returns-else-d-le-JOIN_LIMIT c = grind (arith, common_steps)

@@ -1,19 +1,14 @@
-use Rattle.classes.proofs.Refines.Trails.{backward_begin, backward_done, backward_stop, backward_turn}
+use Rattle.classes.proofs.Refines.Trails.{backward_done, backward_stop, backward_turn}
 use mathlib.Core.Path.{refl}
-use borrow.Author.Rules.{rules}
 use Rattle.classes.proofs.trail.undo_to_unchecked.Goals as goal
-
-pub loop-j-init : goal.loop-j-init
-loop-j-init c =
-    search (rules, backward_begin)
 
 pub returns-then-not-undo_join_unchecked : goal.returns-then-not-undo_join_unchecked
 returns-then-not-undo_join_unchecked c =
-    backward_stop c.loop-j.invariant c.loop-j-test.true refl _ c.undo_join_unchecked.ensures c.if-not-undo_join_unchecked.true-raw
+    backward_stop c.loop-j.invariant c.loop-j-test.true refl _ c.undo_join_unchecked.ensures c.if-not-undo_join_unchecked.true
 
 pub loop-j-preserved : goal.loop-j-preserved
 loop-j-preserved c =
-    backward_turn c.loop-j.invariant c.loop-j-test.true refl _ c.undo_join_unchecked.ensures c.if-not-undo_join_unchecked.false-raw
+    backward_turn c.loop-j.invariant c.loop-j-test.true refl _ c.undo_join_unchecked.ensures c.if-not-undo_join_unchecked.false
 
 pub returns : goal.returns
 returns c =

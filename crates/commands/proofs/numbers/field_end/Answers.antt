@@ -1,18 +1,12 @@
-use Rattle.commands.proofs.Numbering.{passed_none, passed_here, passed_one, passed_all}
+use Rattle.std.proofs.Common.{arith}
+use Rattle.commands.proofs.Numbering.{passed_here, passed_one, passed_all}
 use Rattle.commands.proofs.numbers.field_end.Goals as goal
 
-pub loop-i-init : goal.loop-i-init
-loop-i-init c =
-    passed_none _ _ c.requires
-
 pub returns-then-line-i-eq32 : goal.returns-then-line-i-eq32
-returns-then-line-i-eq32 c =
-    passed_here _ _ _ c.loop-i.invariant c.loop-i-test.true c.if-line-i-eq32.true
+returns-then-line-i-eq32 c = passed_here _ _ _ c.loop-i.invariant c.loop-i-test.true c.if-line-i-eq32.true
 
 pub loop-i-preserved : goal.loop-i-preserved
-loop-i-preserved c =
-    passed_one _ _ _ c.loop-i.invariant c.loop-i-test.true c.if-line-i-eq32.false
+loop-i-preserved c = passed_one _ _ _ c.loop-i.invariant c.loop-i-test.true c.if-line-i-eq32.false
 
 pub returns : goal.returns
-returns c =
-    passed_all _ _ _ c.loop-i.invariant c.loop-i-test.false
+returns c = let i = c.loop-i.invariant.high in passed_all _ _ _ c.loop-i.invariant (omega arith)

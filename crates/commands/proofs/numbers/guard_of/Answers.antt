@@ -1,31 +1,21 @@
-use Rattle.commands.proofs.Guards.{guard_none, below-is, below_none, above_is, above-none, number-low}
-use native.Mathlib.Omega.{arith}
+use Rattle.std.proofs.Common.{arith}
+use Rattle.commands.proofs.Guards.{below-is, below_none, above_is, above-none, number-low}
 use Rattle.commands.proofs.numbers.guard_of.Goals as goal
 
-pub returns-then-w-eq0 : goal.returns-then-w-eq0
-returns-then-w-eq0 c =
-    guard_none _ c.if-w-eq0.true
-
-pub returns-in_default : goal.returns-in_default
-returns-in_default c =
-    below_none _ c.if-w-eq0.false _ c.if-w-eq45.true c.number_of.ensures c.in_default.is
+pub returns-in_err-number_of-in-Some : goal.returns-in_err-number_of-in-Some
+returns-in_err-number_of-in-Some c = let k = c.in-Some.ensures.cases in rw c.from_residual.ensures (below_none _ _ k.0 k.1 c.in_err-number_of-in-Some.ensures)
 
 pub negative-requires : goal.negative-requires
-negative-requires c =
-    let h = number-low _ _ _ _ c.number_of.ensures c.in-Fits.is in omega arith
+negative-requires c = let h = number-low _ _ _ c.in_ok-number_of-in-Some.ensures in omega arith
 
-pub returns-then-w-eq45 : goal.returns-then-w-eq45
-returns-then-w-eq45 c =
-    below-is _ c.if-w-eq0.false _ c.if-w-eq45.true c.number_of.ensures _ _ c.in-Fits.is c.negative.ensures
+pub returns-in_ok-number_of-in-Some : goal.returns-in_ok-number_of-in-Some
+returns-in_ok-number_of-in-Some c = let k = c.in-Some.ensures.cases in below-is _ _ k.0 k.1 _ _ c.in_ok-number_of-in-Some.ensures c.negative.ensures
 
-pub returns-in_default-number_of : goal.returns-in_default-number_of
-returns-in_default-number_of c =
-    above-none _ c.if-w-eq0.false _ c.if-w-eq45.false c.number_of-2.ensures c.in_default-number_of.is
+pub returns-in_err-number_of-in-None : goal.returns-in_err-number_of-in-None
+returns-in_err-number_of-in-None c = rw c.from_residual-in_err-number_of-in-None.ensures (above-none _ c.in-None.ensures.cases c.in_err-number_of-in-None.ensures)
 
 pub positive-requires : goal.positive-requires
-positive-requires c =
-    number-low _ _ _ _ c.number_of-2.ensures c.in-Fits-number_of.is
+positive-requires c = number-low _ _ _ c.in_ok-number_of-in-None.ensures
 
-pub returns : goal.returns
-returns c =
-    above_is _ c.if-w-eq0.false _ c.if-w-eq45.false c.number_of-2.ensures _ _ c.in-Fits-number_of.is c.positive.ensures
+pub returns-in_ok-number_of-in-None : goal.returns-in_ok-number_of-in-None
+returns-in_ok-number_of-in-None c = above_is _ c.in-None.ensures.cases _ _ c.in_ok-number_of-in-None.ensures c.positive.ensures

@@ -1,43 +1,23 @@
-use Rattle.commands.proofs.Numbering.{number-none, read_none, read_low, read-high, read_past, read_one, read_all}
-use native.Mathlib.Omega.{arith}
+use mathlib.Core.Path.{◌∙◌, sym}
+use borrow.Author.Tests.{eqb-true, eqb-false}
+use Rattle.commands.proofs.Numbering.{number-none, read_none, read_odd, read_past, read_one, read_all}
 use Rattle.commands.proofs.numbers.number_of.Goals as goal
 
-pub returns-then-w-eq0 : goal.returns-then-w-eq0
-returns-then-w-eq0 c =
-    number-none _ _ c.if-w-eq0.true
+pub returns-then-is_empty : goal.returns-then-is_empty
+returns-then-is_empty c = number-none _ _ (eqb-true _ _ (sym c.is_empty.ensures ∙ c.if-is_empty.true))
 
-pub loop-i-init : goal.loop-i-init
-loop-i-init c =
-    read_none _ _ c.requires.fact_1 c.if-w-eq0.false
+pub loop-b-init : goal.loop-b-init
+loop-b-init c = read_none _ _ c.requires.some_limit (eqb-false _ _ (sym c.is_empty.ensures ∙ c.if-is_empty.false))
 
-pub returns-then-b-lt48 : goal.returns-then-b-lt48
-returns-then-b-lt48 c =
-    read_low _ _ _ _ c.loop-i.invariant c.loop-i-test.true c.if-b-lt48.true
-
-pub returns-then-b-gt57 : goal.returns-then-b-gt57
-returns-then-b-gt57 c =
-    read-high _ _ _ _ c.loop-i.invariant c.loop-i-test.true c.if-b-gt57.true
-
-pub overflow_mul-x : goal.overflow_mul-x
-overflow_mul-x c =
-    let b = c.loop-i.invariant.below in record { fits = omega arith }
-
-pub overflow_add-x : goal.overflow_add-x
-overflow_add-x c =
-    let b = c.loop-i.invariant.below in let q = c.if-b-gt57.false in record { fits = omega arith }
+pub returns-then-not-is_ascii_digit : goal.returns-then-not-is_ascii_digit
+returns-then-not-is_ascii_digit c = read_odd _ _ _ _ c.loop-b.invariant c.loop-b-test.true c.if-not-is_ascii_digit.ensures.value
 
 pub returns-then-limit-x : goal.returns-then-limit-x
-returns-then-limit-x c =
-    read_past _ _ _ _ c.loop-i.invariant c.loop-i-test.true c.if-limit-x.true
+returns-then-limit-x c = read_past _ _ _ _ c.loop-b.invariant c.loop-b-test.true _ c.from.ensures c.if-limit-x.true
 
-pub loop-i-preserved : goal.loop-i-preserved
-loop-i-preserved c =
-    read_one _ _ _ _ c.loop-i.invariant c.loop-i-test.true c.if-b-lt48.false c.if-b-gt57.false c.if-limit-x.false
-
-pub overflow_cast-result : goal.overflow_cast-result
-overflow_cast-result c =
-    let b = c.loop-i.invariant.below in record { fits = omega arith }
+pub loop-b-preserved : goal.loop-b-preserved
+loop-b-preserved c =
+    read_one _ _ _ _ c.loop-b.invariant c.loop-b-test.true _ c.from.ensures c.if-not-is_ascii_digit.ensures.value c.if-limit-x.false
 
 pub returns : goal.returns
-returns c =
-    read_all _ _ _ _ c.loop-i.invariant c.loop-i-test.false
+returns c = read_all _ _ _ _ c.loop-b.invariant c.loop-b-test.false

@@ -1,14 +1,12 @@
+use Rattle.std.proofs.Common.{arith}
 use Rattle.commands.proofs.Parsing.{text-none, text_odd, text_is}
 use Rattle.commands.proofs.parse.read_text.Goals as goal
 
-pub returns-then-rest-eq0 : goal.returns-then-rest-eq0
-returns-then-rest-eq0 c =
-    text-none _ _ c.if-rest-eq0.true
+pub returns-in_default : goal.returns-in_default
+returns-in_default c = text-none _ _ (omega arith)
 
-pub returns-then-rest-ne32 : goal.returns-then-rest-ne32
-returns-then-rest-ne32 c =
-    text_odd _ _ c.if-rest-eq0.false c.if-rest-ne32.true
+pub returns-in_default-2 : goal.returns-in_default-2
+returns-in_default-2 c = text_odd _ _ (omega arith) (omega arith)
 
 pub returns : goal.returns
-returns c =
-    text_is _ _ c.if-rest-eq0.false _ c.if-rest-ne32.false c.read_chars.ensures
+returns c = text_is _ _ (omega arith) _ (omega arith) c.read_chars.ensures

@@ -1,26 +1,21 @@
+use Rattle.std.proofs.Common.{arith}
 use Rattle.commands.proofs.Decoding.{by_one, by-none, by_two, by_three, by-four, by-more}
 use Rattle.commands.proofs.utf8.char_by.Goals as goal
 
-pub returns-then-a-lt128 : goal.returns-then-a-lt128
-returns-then-a-lt128 c =
-    by_one c.args.a c.args.b c.args.c c.args.d c.if-a-lt128.true
+pub returns-in-0-to-127 : goal.returns-in-0-to-127
+returns-in-0-to-127 c = rw c.from.ensures (by_one _ _ _ _ (omega arith))
 
-pub returns-then-a-lt192 : goal.returns-then-a-lt192
-returns-then-a-lt192 c =
-    by-none c.args.a c.args.b c.args.c c.args.d c.if-a-lt128.false c.if-a-lt192.true
+pub returns-in_default : goal.returns-in_default
+returns-in_default c = by-none _ _ _ _ (omega arith) (omega arith)
 
-pub returns-then-a-lt224 : goal.returns-then-a-lt224
-returns-then-a-lt224 c =
-    by_two c.args.a c.args.b c.args.c c.args.d _ c.two_bytes.ensures c.if-a-lt192.false c.if-a-lt224.true
+pub returns-in-192-to-223 : goal.returns-in-192-to-223
+returns-in-192-to-223 c = by_two _ _ _ _ _ c.two_bytes.ensures (omega arith) (omega arith)
 
-pub returns-then-a-lt240 : goal.returns-then-a-lt240
-returns-then-a-lt240 c =
-    by_three c.args.a c.args.b c.args.c c.args.d _ c.three_bytes.ensures c.if-a-lt224.false c.if-a-lt240.true
+pub returns-in-224-to-239 : goal.returns-in-224-to-239
+returns-in-224-to-239 c = by_three _ _ _ _ _ c.three_bytes.ensures (omega arith) (omega arith)
 
-pub returns-then-a-lt248 : goal.returns-then-a-lt248
-returns-then-a-lt248 c =
-    by-four c.args.a c.args.b c.args.c c.args.d _ c.four_bytes.ensures c.if-a-lt240.false c.if-a-lt248.true
+pub returns-in-240-to-247 : goal.returns-in-240-to-247
+returns-in-240-to-247 c = by-four _ _ _ _ _ c.four_bytes.ensures (omega arith) (omega arith)
 
-pub returns : goal.returns
-returns c =
-    by-more c.args.a c.args.b c.args.c c.args.d c.if-a-lt248.false
+pub returns-in_default-2 : goal.returns-in_default-2
+returns-in_default-2 c = by-more _ _ _ _ (omega arith)

@@ -1,14 +1,16 @@
-use Rattle.commands.proofs.Decoding.{scalar_none, scalar_low, scalar_high}
+use Rattle.std.proofs.lemmas.Grind.{common_steps}
+use Rattle.std.proofs.Common.{arith}
+use Rattle.commands.specs.Utf8.{is_scalar}
 use Rattle.commands.proofs.utf8.is_scalar.Goals as goal
 
-pub returns-then-not-is_char : goal.returns-then-not-is_char
-returns-then-not-is_char c =
-    search scalar_none
-
 pub returns-then-x-lt55296 : goal.returns-then-x-lt55296
-returns-then-x-lt55296 c =
-    search scalar_low
+unfolding is_scalar
+returns-then-x-lt55296 c = grind (arith, common_steps)
 
-pub returns : goal.returns
-returns c =
-    search scalar_high
+pub returns-else-x-lt55296 : goal.returns-else-x-lt55296
+unfolding is_scalar
+returns-else-x-lt55296 c = grind (arith, common_steps)
+
+pub returns-else-is_char : goal.returns-else-is_char
+unfolding is_scalar
+returns-else-is_char c = grind (arith, common_steps)

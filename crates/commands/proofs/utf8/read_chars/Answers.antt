@@ -6,38 +6,22 @@ pub loop-at-init : goal.loop-at-init
 loop-at-init c =
     decoded_none _ _
 
-pub shape_of-list-in_default : goal.shape_of-list-in_default
-shape_of-list-in_default c =
-    c.loop-at.invariant.filled.long
-
-pub returns-in_default : goal.returns-in_default
-returns-in_default c =
-    decoded_bad _ _ _ _ _ c.loop-at.invariant c.loop-at-test.true _ c.char_at.ensures c.in_default.is
-
-pub bounds-list-n : goal.bounds-list-n
-bounds-list-n c =
-    let a = c.loop-at.invariant.low in let b = c.loop-at.invariant.filled.long in let t = c.loop-at-test.true in omega arith
-
-pub overflow_add-n : goal.overflow_add-n
-overflow_add-n c =
-    let a = c.loop-at.invariant.low in let t = c.loop-at-test.true in omega arith
+pub returns-in_err-k : goal.returns-in_err-k
+returns-in_err-k c =
+    rw c.from_residual.ensures (decoded_bad _ _ _ _ _ c.loop-at.invariant c.loop-at-test.true c.in_err-k.ensures)
 
 pub overflow_add-at : goal.overflow_add-at
 overflow_add-at c =
-    let z = char_size _ _ _ _ c.char_at.ensures c.in-Is.is in let t = c.loop-at-test.true in omega arith
+    let z = char_size _ _ _ c.in_ok-k.ensures in let t = c.loop-at-test.true in omega arith
 
 pub loop-at-smaller : goal.loop-at-smaller
 loop-at-smaller c =
-    let z = char_size _ _ _ _ c.char_at.ensures c.in-Is.is in let t = c.loop-at-test.true in omega arith
+    let z = char_size _ _ _ c.in_ok-k.ensures in let t = c.loop-at-test.true in omega arith
 
 pub loop-at-preserved : goal.loop-at-preserved
 loop-at-preserved c =
-    decoded_one _ _ _ _ _ c.loop-at.invariant c.loop-at-test.true _ _ _ c.requires.fact_2 c.char_at.ensures c.in-Is.is
-
-pub shape_of-list : goal.shape_of-list
-shape_of-list c =
-    c.loop-at.invariant.filled.long
+    decoded_one _ _ _ _ _ c.loop-at.invariant c.loop-at-test.true _ _ c.requires.room c.in_ok-k.ensures
 
 pub returns : goal.returns
 returns c =
-    decoded_all _ _ _ _ _ c.loop-at.invariant c.loop-at-test.false c.requires.fact_2
+    decoded_all _ _ _ _ _ c.loop-at.invariant c.loop-at-test.false c.requires.room

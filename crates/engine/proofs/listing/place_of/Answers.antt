@@ -1,10 +1,9 @@
-use Rattle.engine.proofs.Refines.Listing.{lacks-none, lacks-turn, place_found, place_none}
-use native.Mathlib.Omega.{arith}
+use Rattle.engine.proofs.Refines.Listing.{lacks-none, lacks-turn, place_found}
 use Rattle.engine.proofs.listing.place_of.Goals as goal
 
 pub loop-i-init : goal.loop-i-init
 loop-i-init c =
-    (omega arith, lacks-none _ 0 _ _)
+    lacks-none _ 0 _ _
 
 pub returns-then-pair_is_unchecked : goal.returns-then-pair_is_unchecked
 returns-then-pair_is_unchecked c =
@@ -12,8 +11,4 @@ returns-then-pair_is_unchecked c =
 
 pub loop-i-preserved : goal.loop-i-preserved
 loop-i-preserved c =
-    (omega arith, lacks-turn _ 0 _ _ _ _ c.pair_is_unchecked.ensures c.if-pair_is_unchecked.false c.loop-i.invariant.1)
-
-pub returns : goal.returns
-returns c =
-    place_none _ _ _ _ _ c.loop-i.invariant.0 c.loop-i-test.false c.loop-i.invariant.1
+    lacks-turn _ 0 _ _ _ _ c.pair_is_unchecked.ensures c.if-pair_is_unchecked.false c.loop-i.invariant

@@ -1,30 +1,28 @@
+use Rattle.records.proofs.Public.{handed}
 use Rattle.normalize.proofs.Refines.Rounding.{deep_stopped, deep_long, deep_ready, deep_strings, deep_candidates, deep_done}
-use native.Mathlib.Omega.{arith}
 use Rattle.normalize.proofs.deeper.deep_form_by_unchecked.Goals as goal
+
+pub returns-in_err-n : goal.returns-in_err-n
+returns-in_err-n c =
+    rw (handed _ c.from_residual.ensures.1)
+    (deep_stopped _ _ c.in_err-n.ensures)
 
 pub returns-then-n-gt-DEEP_NF_ATOM_CAP : goal.returns-then-n-gt-DEEP_NF_ATOM_CAP
 returns-then-n-gt-DEEP_NF_ATOM_CAP c =
-    deep_long c.requires.ready _ _ c.requires.candidates _ c.requires.t_value c.form_by-made.new.list c.form_by-made.result
-    c.form_by-made.ensures _ _ c.in-List.is c.if-n-gt-DEEP_NF_ATOM_CAP.true
+    deep_long _ _ c.requires.ready c.form_by.new.list _ _ c.in_ok-n.ensures c.if-n-gt-DEEP_NF_ATOM_CAP.true
 
-pub rounds-requires : goal.rounds-requires
-rounds-requires c =
-    record {
-      ready = deep_ready c.requires.ready _ _ c.requires.candidates _ c.requires.t_value c.form_by-made.new.list
-          c.form_by-made.result c.form_by-made.ensures _ _ c.in-List.is;
-      candidates = deep_candidates c.requires.ready _ _ c.requires.candidates _ c.requires.t_value c.form_by-made.new.list
-          c.form_by-made.result c.form_by-made.ensures _ _ c.in-List.is;
-      count_value = deep_strings c.requires.ready _ _ c.requires.candidates _ c.requires.t_value c.form_by-made.new.list
-          c.form_by-made.result c.form_by-made.ensures _ _ c.in-List.is;
-      count_le_deep_limit = (c.if-n-gt-DEEP_NF_ATOM_CAP.false, (let e = c.form_by-made.auto.list in let p = c.requires.list_limit_in_bounds in omega arith));
-    }
+pub rounds-requires-clause-ready : goal.rounds-requires-clause-ready
+rounds-requires-clause-ready c =
+    deep_ready _ _ c.requires.ready c.form_by.new.list _ _ c.in_ok-n.ensures
 
-pub returns-else-n-gt-DEEP_NF_ATOM_CAP : goal.returns-else-n-gt-DEEP_NF_ATOM_CAP
-returns-else-n-gt-DEEP_NF_ATOM_CAP c =
-    deep_done c.requires.ready _ _ c.requires.candidates _ c.requires.t_value c.form_by-made.new.list c.form_by-made.result
-    c.form_by-made.ensures _ _ c.in-List.is c.if-n-gt-DEEP_NF_ATOM_CAP.false c.rounds.ensures
+pub rounds-requires-clause-candidates : goal.rounds-requires-clause-candidates
+rounds-requires-clause-candidates c =
+    deep_candidates _ _ c.requires.ready c.form_by.new.list _ _ c.in_ok-n.ensures _ c.requires.candidates c.requires.t_value
 
-pub returns-in-Refused : goal.returns-in-Refused
-returns-in-Refused c =
-    deep_stopped c.requires.ready _ _ c.requires.candidates _ c.requires.t_value c.form_by-made.new.list c.form_by-made.result
-    c.form_by-made.ensures _ c.in-Refused.is
+pub rounds-requires-clause-strings : goal.rounds-requires-clause-strings
+rounds-requires-clause-strings c =
+    deep_strings _ _ c.requires.ready c.form_by.new.list _ _ c.in_ok-n.ensures _ c.requires.candidates c.requires.t_value
+
+pub returns : goal.returns
+returns c =
+    deep_done _ _ c.requires.ready c.form_by.new.list _ _ c.in_ok-n.ensures _ c.requires.candidates c.requires.t_value c.if-n-gt-DEEP_NF_ATOM_CAP.false c.rounds.ensures

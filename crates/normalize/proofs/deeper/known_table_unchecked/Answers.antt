@@ -3,13 +3,13 @@ use lib.ListN.{replicate, get_or-replicate}
 use mathlib.Core.Path.{refl}
 use Rattle.normalize.proofs.deeper.known_table_unchecked.Goals as goal
 
-pub build_node_of-requires : goal.build_node_of-requires
-build_node_of-requires c =
-    record {
-      n_le_term_limit = c.requires.ready.sized.term_limited;
-      every = strings-within c.requires.ready _ (list-strings c.requires.ready _ c.requires.known_value);
-      rooting = ready_rooting c.requires.ready;
-    }
+pub build_node_of-requires-clause-every : goal.build_node_of-requires-clause-every
+build_node_of-requires-clause-every c =
+    strings-within c.requires.ready _ (list-strings c.requires.ready _ c.requires.known_value)
+
+pub build_node_of-requires-clause-rooting : goal.build_node_of-requires-clause-rooting
+build_node_of-requires-clause-rooting c =
+    ready_rooting c.requires.ready
 
 pub returns : goal.returns
 returns c =

@@ -1,13 +1,7 @@
-use lib.ListN.{length}
-use Prim.Native.Nat.{◌-◌, ◌≤◌}
-use mathlib.Core.Path.{◌≡◌}
 use Rattle.records.specs.View.{lent}
 use Rattle.normalize.proofs.Refines.Heaping.{Heaping}
 use Rattle.normalize.proofs.Refines.Rounding.{all_left}
 use Rattle.normalize.proofs.deeper.push_all.Given as goal
 
-abbrev pub invariant-loop-i : goal.invariant-loop-i
-invariant-loop-i l = (l.i ≤ l.k) × (length l.terms ≡ length l.initial.terms) × (length l.chars ≡ length l.initial.chars) × (length l.out ≡ length l.initial.out) × Heaping (all_left l.next l.k) (lent l.initial.terms l.cells l.initial.chars l.reasons l.keys) l.initial.d (lent l.terms l.cells l.chars l.reasons l.keys) l.d l.out l.count l.i
-
-abbrev pub decreases-loop-i : goal.decreases-loop-i
-decreases-loop-i l = l.k - l.i
+abbrev pub invariant-loop-a : goal.invariant-loop-a
+invariant-loop-a l = Heaping (all_left l.next) (lent l.initial.terms l.cells l.initial.chars l.reasons l.keys) l.initial.d (lent l.terms l.cells l.chars l.reasons l.keys) l.d l.out l.count l.a-index

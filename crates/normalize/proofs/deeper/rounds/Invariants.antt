@@ -1,13 +1,7 @@
-use lib.ListN.{length}
-use Prim.Native.Nat.{◌-◌, ◌≤◌}
-use mathlib.Core.Path.{◌≡◌}
 use Rattle.normalize.specs.Calls.{first_words}
 use Rattle.records.specs.View.{lent}
 use Rattle.normalize.proofs.Refines.Rounding.{Rounding}
 use Rattle.normalize.proofs.deeper.rounds.Given as goal
 
-abbrev pub invariant-loop-i : goal.invariant-loop-i
-invariant-loop-i l = (l.i ≤ 64) × (length l.terms ≡ length l.initial.terms) × (length l.chars ≡ length l.initial.chars) × (length l.reasons ≡ length l.initial.reasons) × (length l.list ≡ length l.initial.list) × Rounding l.known l.t (first_words l.initial.list l.count) (lent l.initial.terms l.cells l.initial.chars l.initial.reasons l.keys) l.initial.d (lent l.terms l.cells l.chars l.reasons l.keys) l.d l.list l.n l.met l.i
-
-abbrev pub decreases-loop-i : goal.decreases-loop-i
-decreases-loop-i l = 64 - l.i
+abbrev pub invariant-loop : goal.invariant-loop
+invariant-loop l = Rounding l.known l.t (first_words l.initial.list l.count) (lent l.initial.terms l.cells l.initial.chars l.initial.reasons l.keys) l.initial.d (lent l.terms l.cells l.chars l.reasons l.keys) l.d l.list l.n l.met l.counter

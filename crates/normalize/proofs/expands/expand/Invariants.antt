@@ -1,13 +1,6 @@
-use lib.ListN.{length}
-use Prim.Native.Nat.{◌-◌, ◌≤◌}
-use mathlib.Core.Path.{◌≡◌}
-use Rattle.normalize.specs.Calls.{first_words}
 use Rattle.records.specs.View.{lent}
 use Rattle.normalize.proofs.Refines.Expanding.{Walking}
 use Rattle.normalize.proofs.expands.expand.Given as goal
 
-abbrev pub invariant-loop-i : goal.invariant-loop-i
-invariant-loop-i l = (l.i ≤ l.count) × (length l.terms ≡ length l.initial.terms) × (length l.chars ≡ length l.initial.chars) × (length l.reasons ≡ length l.initial.reasons) × (length l.next ≡ length l.initial.next) × Walking l.known l.t (first_words l.list l.count) l.initial.next l.initial.met (lent l.initial.terms l.cells l.initial.chars l.initial.reasons l.keys) l.initial.d (lent l.terms l.cells l.chars l.reasons l.keys) l.d l.next l.k l.met l.i
-
-abbrev pub decreases-loop-i : goal.decreases-loop-i
-decreases-loop-i l = l.count - l.i
+abbrev pub invariant-loop-a : goal.invariant-loop-a
+invariant-loop-a l = Walking l.known l.t l.list l.initial.next l.initial.met (lent l.initial.terms l.cells l.initial.chars l.initial.reasons l.keys) l.initial.d (lent l.terms l.cells l.chars l.reasons l.keys) l.d l.next l.k l.met l.a-index

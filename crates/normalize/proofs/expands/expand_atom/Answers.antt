@@ -1,41 +1,25 @@
+use Rattle.records.proofs.Public.{handed}
 use Rattle.normalize.proofs.Refines.Expanding.{form-short, atom-none, atom-some, atom-stopped}
+use Rattle.normalize.proofs.Refines.Words.{words-part}
 use native.Mathlib.Omega.{arith}
-use borrow.Author.Rules.{rules}
 use Rattle.normalize.proofs.expands.expand_atom.Goals as goal
 
-pub form_by-made-requires : goal.form_by-made-requires
-form_by-made-requires c =
-    record {
-      ready = c.requires.ready;
-      candidates = c.requires.candidates;
-      t_value = c.requires.a_value;
-      list_limit_in_bounds = search rules;
-    }
+pub returns-in_err-n : goal.returns-in_err-n
+returns-in_err-n c =
+    rw (handed _ c.from_residual.ensures.1)
+    (atom-stopped _ _ c.args.next.now c.args.k c.in_err-n.ensures)
 
 pub overflow_add-k : goal.overflow_add-k
 overflow_add-k c =
-    (let h = form-short c.requires.ready _ _ c.requires.candidates _ c.requires.a_value _ c.form_by-made.new.list
-    c.form_by-made.ensures c.args.next.now c.args.k _ _ c.in-List.is in
+    (let h = form-short c.args.known.now c.args.a c.args.next.now c.args.k c.form_by.new.list _ _ c.in_ok-n.ensures c.requires.ready _ c.requires.candidates c.requires.a_string in
     let k = c.requires.k_in_bounds in let g = c.well_formed in omega (arith, c.well_formed))
 
 pub returns-then-k-n-gt-DEEP_NF_ATOM_CAP : goal.returns-then-k-n-gt-DEEP_NF_ATOM_CAP
 returns-then-k-n-gt-DEEP_NF_ATOM_CAP c =
-    atom-none c.requires.ready _ _ c.requires.candidates _ c.requires.a_value _ c.form_by-made.new.list c.form_by-made.ensures
-    c.args.next.now c.args.k _ _ c.in-List.is c.if-k-n-gt-DEEP_NF_ATOM_CAP.true
+    atom-none _ _ c.args.next.now c.args.k c.form_by.new.list _ _ c.in_ok-n.ensures c.if-k-n-gt-DEEP_NF_ATOM_CAP.true
 
-pub append-requires : goal.append-requires
-append-requires c =
-    let h = c.if-k-n-gt-DEEP_NF_ATOM_CAP.false in
-    let l = c.requires.deep_limit_in_bounds in
-    let e = c.form_by-made.auto.list in
-    record { fact_1 = omega arith; fact_2 = omega arith }
-
-pub returns-else-k-n-gt-DEEP_NF_ATOM_CAP : goal.returns-else-k-n-gt-DEEP_NF_ATOM_CAP
-returns-else-k-n-gt-DEEP_NF_ATOM_CAP c =
-    atom-some c.requires.ready _ _ c.requires.candidates _ c.requires.a_value _ c.form_by-made.new.list c.form_by-made.ensures
-    c.args.next.now c.args.k _ _ c.append.new.to c.in-List.is c.if-k-n-gt-DEEP_NF_ATOM_CAP.false c.append.ensures
-
-pub returns-in-Refused : goal.returns-in-Refused
-returns-in-Refused c =
-    atom-stopped c.requires.ready _ _ c.requires.candidates _ c.requires.a_value _ c.form_by-made.new.list
-    c.form_by-made.ensures c.args.next.now c.args.k _ c.in-Refused.is
+pub returns : goal.returns
+returns c =
+    atom-some _ _ c.args.next.now c.args.k c.form_by.new.list _ _ c.in_ok-n.ensures _ c.if-k-n-gt-DEEP_NF_ATOM_CAP.false
+    (words-part c.args.next.now c.form_by.new.list _ _ _ _ (let e = c.form_by.auto.list in let h = c.if-k-n-gt-DEEP_NF_ATOM_CAP.false in omega arith)
+    (let h = c.if-k-n-gt-DEEP_NF_ATOM_CAP.false in let l = c.requires.deep_limit_in_bounds in omega arith) c.copy_from_slice.ensures.after)

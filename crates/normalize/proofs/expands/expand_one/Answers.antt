@@ -4,35 +4,25 @@ use Rattle.normalize.proofs.expands.expand_one.Goals as goal
 
 pub returns-then-not-opens : goal.returns-then-not-opens
 returns-then-not-opens c =
-    one_plain c.requires.ready _ _ _ c.requires.a_value _ _ _ _ c.opens.ensures c.if-not-opens.true-raw c.requires.k_in_bounds
+    one_plain c.requires.ready _ _ _ c.requires.a_string _ _ _ _ c.opens.ensures c.if-not-opens.true c.requires.k_in_bounds
 
 pub bounds-met-a : goal.bounds-met-a
 bounds-met-a c =
-    (let h = atom-place c.requires.ready c.args.known.now c.args.t c.args.a c.requires.a_value c.args.next.now
+    (let h = atom-place c.requires.ready c.args.known.now c.args.t c.args.a c.requires.a_string c.args.next.now
     c.args.k c.args.met.now _ c.opens.ensures in
     omega arith)
 
 pub returns-then-met-a-eq1 : goal.returns-then-met-a-eq1
 returns-then-met-a-eq1 c =
-    one_again c.requires.ready _ _ _ c.requires.a_value _ _ _ _ c.opens.ensures c.if-not-opens.false-raw c.if-met-a-eq1.true
+    one_again c.requires.ready _ _ _ c.requires.a_string _ _ _ _ c.opens.ensures c.if-not-opens.false c.if-met-a-eq1.true
 
 pub bounds-met-a-2 : goal.bounds-met-a-2
 bounds-met-a-2 c =
-    (let h = atom-place c.requires.ready c.args.known.now c.args.t c.args.a c.requires.a_value c.args.next.now
+    (let h = atom-place c.requires.ready c.args.known.now c.args.t c.args.a c.requires.a_string c.args.next.now
     c.args.k c.args.met.now _ c.opens.ensures in
     omega arith)
 
-pub expand_atom-requires : goal.expand_atom-requires
-expand_atom-requires c =
-    record {
-      ready = c.requires.ready;
-      candidates = c.requires.candidates;
-      a_value = c.requires.a_value;
-      k_in_bounds = c.requires.k_in_bounds;
-      deep_limit_in_bounds = c.requires.deep_limit_in_bounds;
-    }
-
 pub returns : goal.returns
 returns c =
-    one-opened c.requires.ready _ _ _ c.requires.a_value _ _ _ _ c.opens.ensures c.if-not-opens.false-raw c.if-met-a-eq1.false _ _
+    one-opened c.requires.ready _ _ _ c.requires.a_string _ _ _ _ c.opens.ensures c.if-not-opens.false c.if-met-a-eq1.false _ _
     c.expand_atom.ensures

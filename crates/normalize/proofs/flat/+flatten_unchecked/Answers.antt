@@ -1,52 +1,45 @@
-use mathlib.Core.Bool.{true, false}
+use mathlib.Core.Bool.{false}
 use mathlib.Core.Path.{refl, sym, ap, ◌∙◌}
 use Rattle.held.proofs.Linking.{is_cell, other_tag, step_words_lem, words-none}
 use Rattle.normalize.proofs.Refines.Flats.{one-atom, begin, ended, part_lower, part_passes, part_done, chain_falls}
 use native.Mathlib.Omega.{arith}
 use Rattle.normalize.proofs.flat.+flatten_unchecked.Goals as goal
 
-pub returns-then-kind_of-ne3 : goal.returns-then-kind_of-ne3
-returns-then-kind_of-ne3 t c =
+pub returns-then-not-is_a : goal.returns-then-not-is_a
+returns-then-not-is_a t c =
     search one-atom
 
 pub loop-v-init : goal.loop-v-init
 loop-v-init t c =
-    (refl, search begin)
-
-pub returns-in_default : goal.returns-in_default
-returns-in_default t c =
-    ended _ _ _ _ c.requires.nested c.loop-v.invariant.1 false
-    (words-none c.args.cells.now c.args.m _ c.requires.nested.ascends
-    (ap is_cell (sym c.next_link-link.ensures) ∙ other_tag c.next_link-link.result c.in_default.not-Cell))
-    refl
+    search begin
 
 pub flatten_unchecked-k-requires : goal.flatten_unchecked-k-requires
 flatten_unchecked-k-requires t c =
-    let w = step_words_lem c.args.cells.now c.args.m _ c.in-Cell.v c.in-Cell.field-1 c.in-Cell.next
-    (sym c.in-Cell.is ∙ c.next_link-link.ensures) in (
-      (let h = part_lower _ _ _ _ c.requires.nested c.loop-v.invariant.1 _ true w.counted refl w.value in let e = c.requires-raw.0 in omega arith),
-      (c.requires.nested, (c.loop-v.invariant.1.from, omega arith)),
+    let h = part_lower _ _ _ _ c.requires.nested c.loop-v.invariant (step_words_lem c.args.cells.now c.args.m _ _ _ _ c.in-Cell.ensures) in
+    let e = c.requires-raw.0 in (
+      omega arith,
+      (c.requires.nested, (c.loop-v.invariant.from, omega arith)),
     )
 
 pub returns-then-k-gt-LIST_LIMIT : goal.returns-then-k-gt-LIST_LIMIT
 returns-then-k-gt-LIST_LIMIT t c =
-    let w = step_words_lem c.args.cells.now c.args.m _ c.in-Cell.v c.in-Cell.field-1 c.in-Cell.next
-    (sym c.in-Cell.is ∙ c.next_link-link.ensures) in
-    part_passes _ _ _ _ c.requires.nested c.loop-v.invariant.1 _ true w.counted refl w.value _ _ (omega arith)
-    (let f = c.loop-v.invariant.1.from in let l = c.loop-v.invariant.0 in let p0 = c.requires.nested in let p1 = c.requires.count_le_list_limit in let p2 = c.requires.list_limit_in_bounds in omega arith) c.flatten_unchecked-k.ensures
-    c.if-k-gt-LIST_LIMIT.true
+    let f = c.loop-v.invariant.from in
+    let l = c.loop-v.auto.out in
+    let p = c.requires.count_le_list_limit in
+    let q = c.requires.list_limit_in_bounds in
+    part_passes _ _ _ _ c.requires.nested c.loop-v.invariant (step_words_lem c.args.cells.now c.args.m _ _ _ _ c.in-Cell.ensures) _ _ (omega arith) (omega arith) c.flatten_unchecked-k.ensures c.if-k-gt-LIST_LIMIT.true
 
 pub loop-v-smaller : goal.loop-v-smaller
 loop-v-smaller t c =
-    let w = step_words_lem c.args.cells.now c.args.m _ c.in-Cell.v c.in-Cell.field-1 c.in-Cell.next
-    (sym c.in-Cell.is ∙ c.next_link-link.ensures) in
-    chain_falls _ _ _ _ c.requires.nested c.loop-v.invariant.1 _ true w.counted refl w.value _ w.next
+    chain_falls _ _ _ _ c.requires.nested c.loop-v.invariant (step_words_lem c.args.cells.now c.args.m _ _ _ _ c.in-Cell.ensures)
 
 pub loop-v-preserved : goal.loop-v-preserved
 loop-v-preserved t c =
-    let w = step_words_lem c.args.cells.now c.args.m _ c.in-Cell.v c.in-Cell.field-1 c.in-Cell.next
-    (sym c.in-Cell.is ∙ c.next_link-link.ensures) in (
-      omega arith,
-      part_done _ _ _ _ c.requires.nested c.loop-v.invariant.1 _ true w.counted refl w.value _ w.next _ _ c.flatten_unchecked-k.ensures
-          c.if-k-gt-LIST_LIMIT.false,
-    )
+    part_done _ _ _ _ c.requires.nested c.loop-v.invariant (step_words_lem c.args.cells.now c.args.m _ _ _ _ c.in-Cell.ensures) _ _ c.flatten_unchecked-k.ensures c.if-k-gt-LIST_LIMIT.false
+
+pub returns : goal.returns
+returns t c =
+    ended _ _ _ _ c.requires.nested c.loop-v.invariant false
+    (words-none c.args.cells.now c.args.m _ c.requires.nested.ascends
+    (ap is_cell (sym c.next_link.ensures) ∙ other_tag c.next_link.result c.in_default.not-Cell))
+    refl

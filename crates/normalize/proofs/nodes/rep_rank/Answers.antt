@@ -1,10 +1,7 @@
-use Rattle.normalize.proofs.Represents.{rank-one, rank-none}
+use borrow.Author.Rules.{rules}
+use Rattle.normalize.specs.Working.Nodes.{rank}
 use Rattle.normalize.proofs.nodes.rep_rank.Goals as goal
 
-pub returns-then-kind_of-eq1 : goal.returns-then-kind_of-eq1
-returns-then-kind_of-eq1 c =
-    search rank-one
-
 pub returns : goal.returns
-returns c =
-    search rank-none
+unfolding rank
+returns c = search rules

@@ -1,18 +1,16 @@
-use Rattle.normalize.proofs.Refines.Replacing.{cited-ready, push_for-done, push_for-stopped}
+use Rattle.records.proofs.Public.{handed}
+use Rattle.normalize.proofs.Refines.Replacing.{push_for-done, push_for-stopped}
+use mathlib.Core.Path.{refl}
 use Rattle.normalize.proofs.normal.push_for.Goals as goal
 
-pub push-requires : goal.push-requires
-push-requires c =
-    record {
-      ready = cited-ready c.requires.ready _ _ _ c.requires.c_value c.cite-cited.ensures _ c.in-Counts.is;
-      count_lt_list_limit = c.requires.count_lt_list_limit;
-      list_limit_in_bounds = c.requires.list_limit_in_bounds;
-    }
+pub returns-in_err-d : goal.returns-in_err-d
+returns-in_err-d c =
+    rw (handed _ c.from_residual.ensures.1) (push_for-stopped _ _ _ c.in_err-d.ensures)
 
-pub returns-in-Counts : goal.returns-in-Counts
-returns-in-Counts c =
-    push_for-done c.requires.ready _ _ _ c.requires.c_value c.cite-cited.ensures _ _ c.in-Counts.is c.push.ensures
+pub push-requires-clause-ready : goal.push-requires-clause-ready
+push-requires-clause-ready c =
+    c.in_ok-d.ensures.ready _ tt refl
 
-pub returns-in-Refused : goal.returns-in-Refused
-returns-in-Refused c =
-    push_for-stopped c.requires.ready _ _ _ c.requires.c_value c.cite-cited.ensures _ _ c.in-Refused.is
+pub returns : goal.returns
+returns c =
+    push_for-done _ _ _ c.requires.ready c.requires.explainable _ c.in_ok-d.ensures c.push.ensures

@@ -1,57 +1,35 @@
+use Rattle.records.proofs.Public.{handed}
 use mathlib.Core.List.{◌++◌}
-use mathlib.Core.Path.{refl}
-use Rattle.records.proofs.Lists.{all_every, every_right}
+use Rattle.records.proofs.Climbs.{ready_roots}
 use Rattle.normalize.proofs.Refines.Heaping.{heaping_none}
-use Rattle.normalize.proofs.Refines.Replacing.{rep_requires as forms-rep, for_arguments, forms_turn, forms_stopped, forms_done}
-use native.Mathlib.Omega.{arith}
-use borrow.Author.Rules.{rules}
+use Rattle.normalize.proofs.Refines.Replacing.{rep_counted, for_arguments, forms_turn, forms_stopped, forms_done}
 use Rattle.normalize.proofs.normal.push_forms.Goals as goal
 
-pub loop-i-init : goal.loop-i-init
-loop-i-init c =
-    (omega arith, refl, refl, refl, refl, heaping_none _ _ c.requires.ready, refl)
+pub loop-a-init : goal.loop-a-init
+loop-a-init c =
+    heaping_none _ _ c.requires.ready
 
-pub rep-r-requires : goal.rep-r-requires
-rep-r-requires c =
-    let h = forms-rep c.loop-i.invariant.5 _ c.requires.candidates (every_right c.args.known.now _ (all_every _ _ c.requires.candidates.strings))
-    c.loop-i-test.true in
-    record {
-      fact_1 = h.0;
-      fact_2 = h.1.0;
-      fact_3 = h.1.1;
-    }
+pub rep-r-requires-clause-t_counted : goal.rep-r-requires-clause-t_counted
+rep-r-requires-clause-t_counted c =
+    rep_counted c.args.known.now c.args.flat.now c.loop-a.invariant _ c.requires.candidates c.loop-a-test.true
 
-pub push_for-form-requires : goal.push_for-form-requires
-push_for-form-requires c =
-    record {
-      ready = c.loop-i.invariant.5.carried.ready;
-      c_value = for_arguments c.loop-i.invariant.5 _ c.requires.candidates
-          (every_right c.args.known.now _ (all_every _ _ c.requires.candidates.strings)) c.loop-i-test.true _ c.rep-r.ensures;
-      count_lt_list_limit = (let h = c.loop-i-test.true in let l = c.loop-i.invariant.5.low in let p = c.requires.flat_len_bound in omega arith);
-      list_limit_in_bounds = (let l = c.loop-i.invariant.4 in let p = c.requires.list_limit_in_bounds in omega arith);
-    }
+pub rep-r-requires-clause-closed : goal.rep-r-requires-clause-closed
+rep-r-requires-clause-closed c =
+    ready_roots _ _ c.loop-a.invariant.carried.ready.audited.classed
 
-pub returns-in-Refused : goal.returns-in-Refused
-returns-in-Refused c =
-    forms_stopped c.loop-i.invariant.5 _ c.requires.candidates (every_right c.args.known.now _ (all_every _ _ c.requires.candidates.strings))
-    c.loop-i-test.true _ c.rep-r.ensures _ _ c.push_for-form.ensures _ c.in-Refused.is
+pub push_for-requires-clause-explainable : goal.push_for-requires-clause-explainable
+push_for-requires-clause-explainable c =
+    for_arguments c.args.known.now c.args.flat.now c.loop-a.invariant _ c.requires.candidates c.loop-a-test.true _ c.rep-r.ensures
 
-pub overflow_add-i : goal.overflow_add-i
-overflow_add-i c =
-    (let h = c.loop-i-test.true in let p = c.requires.flat_len_bound in omega arith)
+pub returns-in_err-count : goal.returns-in_err-count
+returns-in_err-count c =
+    rw (handed _ c.from_residual.ensures.1)
+    (forms_stopped c.args.known.now c.args.flat.now c.loop-a.invariant _ c.requires.candidates c.loop-a-test.true _ c.rep-r.ensures c.in_err-count.ensures)
 
-pub loop-i-preserved : goal.loop-i-preserved
-loop-i-preserved c = (
-  omega arith,
-  search rules,
-  search rules,
-  search rules,
-  search rules,
-  forms_turn c.loop-i.invariant.5 _ c.requires.candidates (every_right c.args.known.now _ (all_every _ _ c.requires.candidates.strings))
-      c.loop-i-test.true _ c.rep-r.ensures _ _ c.push_for-form.ensures _ _ c.in-List.is,
-  search rules,
-)
+pub loop-a-preserved : goal.loop-a-preserved
+loop-a-preserved c =
+    forms_turn c.args.known.now c.args.flat.now c.loop-a.invariant _ c.requires.candidates c.loop-a-test.true _ c.rep-r.ensures c.push_for.new.list _ _ c.in_ok-count.ensures
 
 pub returns : goal.returns
 returns c =
-    forms_done (c.args.known.now ++ c.args.flat.now) _ c.loop-i.invariant.5 c.loop-i-test.false
+    forms_done (c.args.known.now ++ c.args.flat.now) _ c.loop-a.invariant c.loop-a-test.false

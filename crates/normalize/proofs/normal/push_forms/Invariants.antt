@@ -1,14 +1,8 @@
-use lib.ListN.{length}
-use Prim.Native.Nat.{◌-◌, ◌≤◌}
 use mathlib.Core.List.{◌++◌}
-use mathlib.Core.Path.{◌≡◌}
 use Rattle.records.specs.View.{lent}
 use Rattle.normalize.proofs.Refines.Heaping.{Heaping}
 use Rattle.normalize.proofs.Refines.Replacing.{forms_left}
 use Rattle.normalize.proofs.normal.push_forms.Given as goal
 
-abbrev pub invariant-loop-i : goal.invariant-loop-i
-invariant-loop-i l = (l.i ≤ length l.flat) × (length l.terms ≡ length l.initial.terms) × (length l.chars ≡ length l.initial.chars) × (length l.reasons ≡ length l.initial.reasons) × (length l.list ≡ length l.initial.list) × Heaping (forms_left (l.known ++ l.flat) l.flat) (lent l.initial.terms l.cells l.initial.chars l.initial.reasons l.keys) l.initial.d (lent l.terms l.cells l.chars l.reasons l.keys) l.d l.list l.count l.i × (length l.places ≡ length l.initial.places)
-
-abbrev pub decreases-loop-i : goal.decreases-loop-i
-decreases-loop-i l = length l.flat - l.i
+abbrev pub invariant-loop-a : goal.invariant-loop-a
+invariant-loop-a l = Heaping (forms_left (l.known ++ l.flat) l.flat) (lent l.initial.terms l.cells l.initial.chars l.initial.reasons l.keys) l.initial.d (lent l.terms l.cells l.chars l.reasons l.keys) l.d l.list l.count l.a-index

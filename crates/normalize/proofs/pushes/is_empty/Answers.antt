@@ -1,10 +1,10 @@
 use Rattle.normalize.proofs.Refines.Pushing.{empty-other, empty_constant}
 use Rattle.normalize.proofs.pushes.is_empty.Goals as goal
 
-pub returns-then-kind_of-ne1 : goal.returns-then-kind_of-ne1
-returns-then-kind_of-ne1 c =
-    search empty-other
+pub returns-then-is_a : goal.returns-then-is_a
+returns-then-is_a c =
+    empty_constant c.args.terms.now _ _ _ _ c.is_a.ensures c.if-is_a.true c.second.ensures
 
-pub returns : goal.returns
-returns c =
-    empty_constant c.args.terms.now _ _ _ _ c.kind_of.ensures c.if-kind_of-ne1.false c.second.ensures
+pub returns-else-is_a : goal.returns-else-is_a
+returns-else-is_a c =
+    empty-other _ _ _ c.is_a.ensures c.if-is_a.false

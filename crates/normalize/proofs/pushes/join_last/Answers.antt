@@ -1,25 +1,16 @@
+use Rattle.records.proofs.Public.{handed}
 use Rattle.normalize.proofs.Refines.Pushing.{pair-constants, join-made, join-stopped}
-use native.Mathlib.Omega.{arith}
 use Rattle.normalize.proofs.pushes.join_last.Goals as goal
 
-pub join_constants_unchecked-made-requires : goal.join_constants_unchecked-made-requires
-join_constants_unchecked-made-requires c =
-    record {
-      ready = c.requires.ready;
-      list_len_bound = omega arith;
-      list_value = pair-constants c.requires.ready _ _ c.args.list.now c.requires.count_nonzero c.requires.count_in_bounds c.requires.count_value;
-    }
+pub join_constants_unchecked-requires-clause-list_value : goal.join_constants_unchecked-requires-clause-list_value
+join_constants_unchecked-requires-clause-list_value c =
+    pair-constants c.requires.ready _ _ c.args.list.now c.requires.count_nonzero c.requires.count_in_bounds c.requires.joins
 
-pub offset_bounds-list-last-in-Term : goal.offset_bounds-list-last-in-Term
-offset_bounds-list-last-in-Term c =
-    omega (arith, c.well_formed)
+pub returns-in_err-u : goal.returns-in_err-u
+returns-in_err-u c =
+    rw (handed _ c.from_residual.ensures.1)
+    (join-stopped c.requires.ready _ _ c.args.list.now c.requires.count_nonzero c.requires.count_in_bounds c.requires.joins c.in_err-u.ensures)
 
-pub returns-in-Term : goal.returns-in-Term
-returns-in-Term c =
-    join-made c.requires.ready _ _ c.args.list.now c.requires.count_nonzero c.requires.count_in_bounds c.requires.count_value _ _ _
-    c.join_constants_unchecked-made.ensures c.in-Term.is
-
-pub returns-in-Refused : goal.returns-in-Refused
-returns-in-Refused c =
-    join-stopped c.requires.ready _ _ c.args.list.now c.requires.count_nonzero c.requires.count_in_bounds c.requires.count_value _ _
-    c.join_constants_unchecked-made.ensures c.in-Refused.is
+pub returns : goal.returns
+returns c =
+    join-made c.requires.ready _ _ c.args.list.now c.requires.count_nonzero c.requires.count_in_bounds c.requires.joins _ _ c.in_ok-u.ensures

@@ -14,7 +14,7 @@ returns-then-not-term_fits c =
 pub put_chain_unchecked-requires : goal.put_chain_unchecked-requires
 put_chain_unchecked-requires c =
     record {
-      fact_1 = let a = c.args in
+      limited = let a = c.args in
           let t = a.terms.now in
           let e = a.cells.now in
           let h = a.chars.now in
@@ -22,7 +22,7 @@ put_chain_unchecked-requires c =
           let k = a.keys.now in
           let p = c.cells_fit.ensures in
           let s = c.requires.sized in append-limit t e h r k a.c a.l.now _ p s c.if-not-cells_fit.false-raw;
-      fact_2 = let a = c.args in
+      room = let a = c.args in
           let t = a.terms.now in
           let e = a.cells.now in
           let h = a.chars.now in
@@ -36,12 +36,12 @@ pub put_term_unchecked-requires : goal.put_term_unchecked-requires
 put_term_unchecked-requires c =
     let t = c.args.terms.now in
     let p = c.term_fits.ensures in
-    let h = walk-to 3 _ c.requires _ c.bucket_of.ensures in
+    let h = walk-to 3 _ c.requires _ (rw c.into-2.ensures at c.bucket_of.ensures) in
     record {
-      fact_1 = one-limit t _ _ p c.if-not-term_fits.false-raw;
-      fact_2 = one-words t _ _ p c.if-not-term_fits.false-raw;
-      fact_3 = h.0;
-      fact_4 = h.1;
+      limited = one-limit t _ _ p c.if-not-term_fits.false-raw;
+      room = one-words t _ _ p c.if-not-term_fits.false-raw;
+      bucket = h.0;
+      walkable = h.1;
     }
 
 pub with_cells-requires : goal.with_cells-requires
@@ -55,5 +55,5 @@ with_term-requires c =
 pub returns : goal.returns
 returns c =
     append-made _ _ _ _ _ _ _ _ c.cells_fit.ensures c.if-not-cells_fit.false-raw _ c.term_fits.ensures c.requires _ _ _ _ _ c.if-not-term_fits.false-raw
-    c.bucket_of.ensures c.put_chain_unchecked.ensures c.put_chain_unchecked.auto.cells
-    c.put_term_unchecked.ensures c.put_term_unchecked.auto.terms c.with_cells.ensures c.with_term.ensures
+    (rw c.into-2.ensures at c.bucket_of.ensures) c.put_chain_unchecked.ensures c.put_chain_unchecked.auto.cells
+    (rw c.into.ensures at c.put_term_unchecked.ensures) c.put_term_unchecked.auto.terms c.with_cells.ensures c.with_term.ensures

@@ -1,11 +1,10 @@
-use mathlib.Core.Path.{refl}
+use Rattle.std.proofs.Common.{rules}
 use Rattle.records.proofs.IndexLaws.{search_walkable, search_first}
+use mathlib.Core.Path.{refl}
 use Rattle.records.proofs.build.find_sides.Goals as goal
 
-pub walk_sides-requires : goal.walk_sides-requires
-walk_sides-requires c =
-    search_walkable _ _ _ _ c.requires _ refl
+pub first_in-requires-clause-walkable : goal.first_in-requires-clause-walkable
+first_in-requires-clause-walkable c = search_walkable _ _ _ _ c.requires _ refl
 
 pub returns : goal.returns
-returns c =
-    search_first _ _ _ _ c.requires _ refl _ c.walk_sides.ensures
+returns c = search_first _ _ _ _ c.requires _ refl _ (c.first_in.ensures _ (λ t r q. search rules))

@@ -1,10 +1,12 @@
-use Rattle.records.proofs.Refines.Builds.{parts-kind, parts_are}
+use Rattle.records.specs.Working.Leaves.{has_parts}
+use Rattle.std.proofs.lemmas.Bool.Decides.{nat_tests}
+use native.Mathlib.Omega.{arith}
 use Rattle.records.proofs.build.has_parts.Goals as goal
 
-pub returns-then-kind-ne3 : goal.returns-then-kind-ne3
-returns-then-kind-ne3 c =
-    search parts-kind
+pub returns-then-is_a : goal.returns-then-is_a
+unfolding has_parts
+returns-then-is_a c = grind (arith, nat_tests)
 
-pub returns : goal.returns
-returns c =
-    search parts_are
+pub returns-else-is_a : goal.returns-else-is_a
+unfolding has_parts
+returns-else-is_a c = grind (arith, nat_tests)

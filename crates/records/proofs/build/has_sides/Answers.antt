@@ -1,14 +1,12 @@
-use Rattle.records.proofs.Refines.Builds.{sides-kind, sides_first, sides-second}
+use Rattle.records.specs.Working.Leaves.{has_sides}
+use Rattle.std.proofs.lemmas.Bool.Decides.{nat_tests}
+use native.Mathlib.Omega.{arith}
 use Rattle.records.proofs.build.has_sides.Goals as goal
 
-pub returns-then-kind-k : goal.returns-then-kind-k
-returns-then-kind-k c =
-    search sides-kind
-
 pub returns-then-first-a : goal.returns-then-first-a
-returns-then-first-a c =
-    search sides_first
+unfolding has_sides
+returns-then-first-a c = grind (arith, nat_tests)
 
-pub returns : goal.returns
-returns c =
-    search sides-second
+pub returns-else-first-a : goal.returns-else-first-a
+unfolding has_sides
+returns-else-first-a c = grind (arith, nat_tests)

@@ -1,32 +1,33 @@
 use Rattle.records.proofs.Refines.BuildCalls.{equation-right, equation-unfit, equation_called}
-use Rattle.records.proofs.Public.{cut-asked, call_unready, passed-ready}
+use Rattle.records.proofs.Public.{cut-asked, call_refused, handed, passed-ready}
 use Rattle.records.proofs.Refines.MakeCalls.{undone-made}
 use Rattle.records.specs.View.{lent}
+use mathlib.Core.Path.{refl}
 use Rattle.records.proofs.build.make_equation.Goals as goal
 
-pub returns-then-k-ne0 : goal.returns-then-k-ne0
-returns-then-k-ne0 c =
-    search call_unready
+pub returns-in_err-audit : goal.returns-in_err-audit
+returns-in_err-audit c =
+    rw (handed _ c.from_residual.ensures.1) (call_refused _ _ _ _ _ c.in_err-audit.ensures)
 
 pub make_equation_unchecked-r-requires : goal.make_equation_unchecked-r-requires
 make_equation_unchecked-r-requires c =
     record {
-      ready = let a = c.args in search passed-ready;
+      ready = passed-ready _ _ _ c.in_ok-audit.ensures refl;
       c_value = let a = c.args in equation-right (lent a.terms.now a.cells.now a.chars.now a.reasons.now a.keys.now) a.c a.a a.b _ c.is_equatable.ensures c.if-is_equatable.true;
     }
 
-pub cut_refused-requires : goal.cut_refused-requires
-cut_refused-requires c =
-    let h = cut-asked (passed-ready _ _ _ c.audit-k.ensures c.if-k-ne0.false) c.make_equation_unchecked-r.auto.terms in
+pub cut_refused_unchecked-requires : goal.cut_refused_unchecked-requires
+cut_refused_unchecked-requires c =
+    let h = cut-asked (passed-ready _ _ _ c.in_ok-audit.ensures refl) c.make_equation_unchecked-r.auto.terms in
     record {
-      fact_1 = h.0;
-      fact_2 = h.1;
+      n_le_term_limit = h.0;
+      terms_in_bounds = h.1;
     }
 
 pub returns-then-is_equatable : goal.returns-then-is_equatable
 returns-then-is_equatable c =
-    search (equation_called, undone-made)
+    equation_called _ _ _ _ _ _ _ c.in_ok-audit.ensures refl _ _ _ c.is_equatable.ensures c.if-is_equatable.true c.make_equation_unchecked-r.ensures (undone-made _ _ _ _ _ c.cut_refused_unchecked.ensures)
 
 pub returns : goal.returns
 returns c =
-    search equation-unfit
+    equation-unfit _ _ _ _ _ _ _ c.in_ok-audit.ensures refl _ _ _ c.is_equatable.ensures c.if-is_equatable.false

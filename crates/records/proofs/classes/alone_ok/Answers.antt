@@ -1,14 +1,20 @@
-use Rattle.records.proofs.Refines.ClassLaws.{alone-root, alone-child, alone-parent}
+use Rattle.records.proofs.Climbs.{view_class}
+use Rattle.records.specs.Working.Leaves.{alone_at}
+use Rattle.std.proofs.lemmas.Bool.Decides.{nat_tests}
+use native.Mathlib.Omega.{arith}
 use Rattle.records.proofs.classes.alone_ok.Goals as goal
 
 pub returns-then-p-t : goal.returns-then-p-t
+unfolding alone_at
 returns-then-p-t c =
-    alone-root c.args.terms.now c.args.c c.args.t c.requires _ c.class_parent-p.ensures c.if-p-t.true
+    let a = c.args in let p = view_class a.terms.now a.c.terms a.t _ c.requires c.class_parent-p.ensures in grind (arith, nat_tests)
 
-pub returns-then-not-is_string : goal.returns-then-not-is_string
-returns-then-not-is_string c =
-    alone-child c.args.terms.now c.args.c c.args.t c.requires _ c.class_parent-p.ensures _ c.if-p-t.false c.is_string.ensures c.if-not-is_string.true-raw
+pub returns-then-is_string : goal.returns-then-is_string
+unfolding alone_at
+returns-then-is_string c =
+    let a = c.args in let p = view_class a.terms.now a.c.terms a.t _ c.requires c.class_parent-p.ensures in grind (arith, nat_tests)
 
-pub returns : goal.returns
-returns c =
-    alone-parent c.args.terms.now c.args.c c.args.t c.requires _ c.class_parent-p.ensures _ _ c.if-p-t.false c.is_string.ensures c.if-not-is_string.false-raw c.is_string-2.ensures
+pub returns-else-is_string : goal.returns-else-is_string
+unfolding alone_at
+returns-else-is_string c =
+    let a = c.args in let p = view_class a.terms.now a.c.terms a.t _ c.requires c.class_parent-p.ensures in grind (arith, nat_tests)

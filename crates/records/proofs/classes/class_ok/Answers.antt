@@ -20,14 +20,5 @@ top_unchecked-u-requires c =
     let h = seen-rooted c.args.terms.now c.args.c c.requires.1 _ _ _ c.requires.0 c.root_unchecked-r.ensures c.top_unchecked-q.ensures in
     (root-here c.args.terms.now c.args.c _ _ _ h, h.tops)
 
-pub rooted_ok-requires : goal.rooted_ok-requires
-rooted_ok-requires c =
-    record {
-      fact_1 = seen-rooted c.args.terms.now c.args.c c.requires.1 _ _ _ c.requires.0 c.root_unchecked-r.ensures c.top_unchecked-q.ensures;
-      fact_2 = c.root_unchecked-p.ensures;
-      fact_3 = c.top_unchecked-u.ensures;
-    }
-
-pub returns : goal.returns
-returns c =
-    c.rooted_ok.ensures
+pub rooted_ok-requires-clause-rooted : goal.rooted_ok-requires-clause-rooted
+rooted_ok-requires-clause-rooted c = seen-rooted c.args.terms.now c.args.c c.requires.1 _ _ _ c.requires.0 c.root_unchecked-r.ensures c.top_unchecked-q.ensures

@@ -1,10 +1,16 @@
-use Rattle.records.proofs.Refines.ClassLaws.{ends-stop, ends_last}
+use Rattle.records.proofs.Refines.ClassLaws.{root-here, top-here}
+use Rattle.records.proofs.Climbs.{view_class, view_forest}
+use Rattle.records.specs.Rules.{ends_rule}
+use Rattle.std.proofs.lemmas.Bool.Decides.{nat_tests}
+use native.Mathlib.Omega.{arith}
 use Rattle.records.proofs.classes.ends_ok.Goals as goal
 
-pub returns-then-p-r : goal.returns-then-p-r
-returns-then-p-r c =
-    ends-stop c.args.terms.now c.args.c c.args.t c.args.r c.args.q c.requires _ c.class_parent-p.ensures c.if-p-r.true
+pub returns-then-class_parent-r : goal.returns-then-class_parent-r
+unfolding ends_rule
+returns-then-class_parent-r c =
+    let a = c.args in let h = c.requires in let p = view_class a.terms.now a.c.terms a.r _ (root-here a.terms.now a.c a.t a.r a.q h) c.class_parent.ensures in let u = view_forest a.terms.now a.c.terms a.q _ (top-here a.terms.now a.c a.t a.r a.q h) c.forest_parent.ensures in rw (← h.root_is, ← h.top_is) (grind (arith, nat_tests))
 
-pub returns : goal.returns
-returns c =
-    ends_last c.args.terms.now c.args.c c.args.t c.args.r c.args.q c.requires _ _ c.class_parent-p.ensures c.if-p-r.false c.forest_parent-u.ensures
+pub returns-else-class_parent-r : goal.returns-else-class_parent-r
+unfolding ends_rule
+returns-else-class_parent-r c =
+    let a = c.args in let h = c.requires in let p = view_class a.terms.now a.c.terms a.r _ (root-here a.terms.now a.c a.t a.r a.q h) c.class_parent.ensures in rw (← h.root_is) (grind (arith, nat_tests))

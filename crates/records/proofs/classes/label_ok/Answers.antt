@@ -1,18 +1,20 @@
-use Rattle.records.proofs.Refines.ClassLaws.{label_edge, root-kind, root-value, root-stamp}
+use Rattle.records.proofs.Climbs.{view_term}
+use Rattle.records.specs.Rules.{label_rule}
+use Rattle.std.proofs.lemmas.Bool.Decides.{nat_tests}
+use native.Mathlib.Omega.{arith}
 use Rattle.records.proofs.classes.label_ok.Goals as goal
 
-pub returns-then-p-t : goal.returns-then-p-t
-returns-then-p-t c =
-    label_edge c.args.terms.now c.args.c c.args.t c.requires _ _ _ _ c.forest_parent-p.ensures c.label_kind-k.ensures c.label_value-v.ensures c.if-p-t.true c.edge_label_ok.ensures
+pub returns-then-v-eq0 : goal.returns-then-v-eq0
+unfolding label_rule
+returns-then-v-eq0 c =
+    let a = c.args in rw (view_term a.terms.now a.c.terms a.t c.requires) (grind (arith, nat_tests))
 
-pub returns-then-k-ne0 : goal.returns-then-k-ne0
-returns-then-k-ne0 c =
-    root-kind c.args.terms.now c.args.c c.args.t c.requires _ _ _ c.forest_parent-p.ensures c.label_kind-k.ensures c.label_value-v.ensures c.if-p-t.false c.if-k-ne0.true
+pub returns-else-v-eq0 : goal.returns-else-v-eq0
+unfolding label_rule
+returns-else-v-eq0 c =
+    let a = c.args in rw (view_term a.terms.now a.c.terms a.t c.requires) (grind (arith, nat_tests))
 
-pub returns-then-v-ne0 : goal.returns-then-v-ne0
-returns-then-v-ne0 c =
-    root-value c.args.terms.now c.args.c c.args.t c.requires _ _ _ c.forest_parent-p.ensures c.label_kind-k.ensures c.label_value-v.ensures c.if-p-t.false c.if-k-ne0.false c.if-v-ne0.true
-
-pub returns : goal.returns
-returns c =
-    root-stamp c.args.terms.now c.args.c c.args.t c.requires _ _ _ c.forest_parent-p.ensures c.label_kind-k.ensures c.label_value-v.ensures c.if-p-t.false _ c.if-k-ne0.false c.if-v-ne0.false c.stamp-m.ensures
+pub returns-else-forest_parent-t : goal.returns-else-forest_parent-t
+unfolding label_rule
+returns-else-forest_parent-t c =
+    let a = c.args in rw (view_term a.terms.now a.c.terms a.t c.requires) (grind (arith, nat_tests))

@@ -1,9 +1,5 @@
-use Rattle.records.proofs.Paths.{lifting_begin, lifting_done, lifting_less, lifting_turn, pathed-words}
+use Rattle.records.proofs.Paths.{lifting_done, lifting_less, lifting_turn, pathed-words}
 use Rattle.records.proofs.classes.lift.Goals as goal
-
-pub loop-w-init : goal.loop-w-init
-loop-w-init c =
-    let p = c.requires in lifting_begin _ _ _ _ p.1 p.2
 
 pub forest_parent_unchecked-q-requires : goal.forest_parent_unchecked-q-requires
 forest_parent_unchecked-q-requires c =

@@ -1,9 +1,5 @@
-use Rattle.records.proofs.Paths.{meeting_begin, meeting_met, meeting_none, meeting_less, meeting_turn, pathed-words}
+use Rattle.records.proofs.Paths.{meeting_met, meeting_none, meeting_less, meeting_turn, pathed-words}
 use Rattle.records.proofs.classes.meet.Goals as goal
-
-pub loop-x-init : goal.loop-x-init
-loop-x-init c =
-    let p = c.requires in meeting_begin _ _ _ _ p.1 p.2 p.3
 
 pub forest_parent_unchecked-p-requires : goal.forest_parent_unchecked-p-requires
 forest_parent_unchecked-p-requires c =

@@ -1,10 +1,6 @@
-use Rattle.records.proofs.Paths.{abreast_begin, abreast_turned, abreast_lift, abreast_even, abreast_met, abreast_less, abreast_turn, pathed-words}
+use Rattle.records.proofs.Paths.{abreast_turned, abreast_lift, abreast_even, abreast_met, abreast_less, abreast_turn, pathed-words}
 use mathlib.Core.Path.{sym}
 use Rattle.records.proofs.classes.nearest_unchecked.Goals as goal
-
-pub loop-x-init : goal.loop-x-init
-loop-x-init c =
-    let p = c.requires in abreast_begin _ _ _ _ p.1 p.2
 
 pub forest_parent_unchecked-p-requires : goal.forest_parent_unchecked-p-requires
 forest_parent_unchecked-p-requires c =

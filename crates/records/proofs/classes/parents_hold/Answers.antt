@@ -1,38 +1,24 @@
-use Rattle.records.proofs.Lists.{each-stop, each_turn, each-done}
-use Rattle.records.specs.View.{term_at, termed}
-use Rattle.records.proofs.Lists.{below-zero, within-is}
+use Rattle.records.proofs.Lists.{within-is, upto_more, upto-stop, upto-done}
 use Rattle.records.specs.Rules.{parents_rule}
+use Rattle.records.specs.View.{termed, term_at}
 use Prim.Native.Nat.{suc}
 use native.Mathlib.Omega.{arith}
 use Rattle.records.proofs.classes.parents_hold.Goals as goal
 
-pub loop-i-init : goal.loop-i-init
-loop-i-init c =
-    (omega arith, below-zero _)
-
-pub overflow_add-i : goal.overflow_add-i
-overflow_add-i c =
-    omega (arith, c.requires)
-
 pub parents_ok-requires : goal.parents_ok-requires
-parents_ok-requires c =
-    within-is _ _ (omega arith) (omega arith)
+parents_ok-requires c = within-is _ _ (omega arith) (omega arith)
 
 pub returns-then-not-parents_ok : goal.returns-then-not-parents_ok
 returns-then-not-parents_ok c =
     let a = c.args in
-    each-stop (parents_rule (termed a.terms.now a.c)) (λ j. term_at a.terms.now (suc j)) a.c.terms c.loop-i.i _ c.parents_ok.ensures c.if-not-parents_ok.true-raw c.loop-i-test.true
-
-pub overflow_add-i-in-loop-i : goal.overflow_add-i-in-loop-i
-overflow_add-i-in-loop-i c =
-    omega (arith, c.requires)
-
-pub loop-i-preserved : goal.loop-i-preserved
-loop-i-preserved c =
-    let a = c.args in
-    (omega arith, each_turn (parents_rule (termed a.terms.now a.c)) c.loop-i.i _ c.parents_ok.ensures c.if-not-parents_ok.false-raw c.loop-i.invariant.1)
+    upto-stop (λ j. term_at a.terms.now (suc j)) (parents_rule (termed a.terms.now a.c)) a.c.terms _ _ c.parents_ok.ensures c.if-not-parents_ok.true (omega arith) (omega arith)
 
 pub returns : goal.returns
 returns c =
     let a = c.args in
-    each-done (parents_rule (termed a.terms.now a.c)) (λ j. term_at a.terms.now (suc j)) a.c.terms c.loop-i.i c.loop-i.invariant.0 c.loop-i-test.false c.loop-i.invariant.1
+    upto-done (λ j. term_at a.terms.now (suc j)) (parents_rule (termed a.terms.now a.c)) a.c.terms _ c.loop-t.invariant (omega arith)
+
+pub returns-else-not-parents_ok : goal.returns-else-not-parents_ok
+returns-else-not-parents_ok c =
+    let a = c.args in
+    upto-done (λ j. term_at a.terms.now (suc j)) (parents_rule (termed a.terms.now a.c)) a.c.terms _ (upto_more _ _ _ c.loop-t.invariant c.parents_ok.ensures c.if-not-parents_ok.false) (omega arith)

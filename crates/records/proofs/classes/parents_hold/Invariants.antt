@@ -1,13 +1,7 @@
-use Rattle.records.specs.View.{termed}
 use Rattle.records.specs.Rules.{parents_rule}
-use Rattle.records.specs.Lists.{all_below}
-use Prim.Native.Nat.{suc, ◌-◌, ◌≤◌}
-use mathlib.Core.Path.{◌≡◌}
-use mathlib.Core.Bool.{true}
+use Rattle.records.specs.View.{termed}
+use Rattle.records.proofs.Lists.{UpTo}
 use Rattle.records.proofs.classes.parents_hold.Given as goal
 
-abbrev pub invariant-loop-i : goal.invariant-loop-i
-invariant-loop-i l = (l.i ≤ l.c.terms) × (all_below (λ j. parents_rule (termed l.terms l.c) (suc j)) l.i ≡ true)
-
-abbrev pub decreases-loop-i : goal.decreases-loop-i
-decreases-loop-i l = l.c.terms - l.i
+abbrev pub invariant-loop-t : goal.invariant-loop-t
+invariant-loop-t l = UpTo (parents_rule (termed l.terms l.c)) l.t

@@ -1,10 +1,11 @@
 use Rattle.records.proofs.Refines.HeightLaws.{kept-known, kept-past, kept_new}
+use Rattle.std.proofs.lemmas.Grind.{common_steps}
 use native.Mathlib.Omega.{arith}
 use Rattle.records.proofs.heights.kept_height.Goals as goal
 
 pub returns-then-k-ne0 : goal.returns-then-k-ne0
 returns-then-k-ne0 c =
-    kept-known _ _ _ _ c.requires.heights _ c.kept-k.ensures c.if-k-ne0.true
+    kept-known _ _ _ _ c.requires.heights _ (grind (arith, common_steps)) c.if-k-ne0.true
 
 pub pair_height-h-requires : goal.pair_height-h-requires
 pair_height-h-requires c =

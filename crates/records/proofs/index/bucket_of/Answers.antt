@@ -3,12 +3,12 @@ use mathlib.Core.Path.{ap}
 use Rattle.records.proofs.Refines.IndexBuckets.{list-start, list-turn, list_done}
 use Rattle.records.proofs.index.bucket_of.Goals as goal
 
-pub loop-i-init : goal.loop-i-init
-loop-i-init c =
+pub loop-x-init : goal.loop-x-init
+loop-x-init c =
     list-start _ _ _ (ap (λ (x : ℕ). x % 64) c.wide-b.ensures)
 
-pub loop-i-preserved : goal.loop-i-preserved
-loop-i-preserved c =
+pub loop-x-preserved : goal.loop-x-preserved
+loop-x-preserved c =
     search list-turn
 
 pub returns : goal.returns

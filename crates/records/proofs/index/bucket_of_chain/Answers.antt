@@ -1,9 +1,5 @@
-use Rattle.records.proofs.Refines.IndexBuckets.{chain-start, chain-shorter, chain-turn, chain-done}
+use Rattle.records.proofs.Refines.IndexBuckets.{chain-shorter, chain-turn, chain-done}
 use Rattle.records.proofs.index.bucket_of_chain.Goals as goal
-
-pub loop-b-init : goal.loop-b-init
-loop-b-init c =
-    let a = c.args in chain-start a.cells.now a.n a.f
 
 pub loop-b-smaller : goal.loop-b-smaller
 loop-b-smaller c =

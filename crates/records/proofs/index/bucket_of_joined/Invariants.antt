@@ -2,12 +2,7 @@ use Rattle.records.proofs.Refines.IndexBuckets.{JoinedFrom}
 use Rattle.records.specs.Index.{bucket_of}
 use Rattle.records.specs.View.{text_at}
 use Rattle.records.specs.Lists.{concat_map}
-use lib.ListN.{length}
-use Prim.Native.Nat.{◌-◌}
 use Rattle.records.proofs.index.bucket_of_joined.Given as goal
 
-abbrev pub invariant-loop-i : goal.invariant-loop-i
-invariant-loop-i l = JoinedFrom l.terms l.chars l.list (bucket_of 1 (concat_map (text_at l.terms l.chars) l.list)) l.b l.i
-
-abbrev pub decreases-loop-i : goal.decreases-loop-i
-decreases-loop-i l = length l.list - l.i
+abbrev pub invariant-loop-t : goal.invariant-loop-t
+invariant-loop-t l = JoinedFrom l.terms l.chars l.list (bucket_of 1 (concat_map (text_at l.terms l.chars) l.list)) l.b l.t-index

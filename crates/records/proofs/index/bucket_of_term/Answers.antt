@@ -1,5 +1,6 @@
 use Rattle.records.proofs.Refines.IndexBuckets.{text-within, constant-bucket, variable-bucket, concat-bucket, length-bucket, other-bucket}
 use Rattle.records.proofs.Lists.{within-is}
+use Rattle.records.proofs.KindWords.{kind_is, kind_none}
 use mathlib.Core.Path.{◌∙◌}
 use native.Mathlib.Omega.{arith}
 use Rattle.records.proofs.index.bucket_of_term.Goals as goal
@@ -7,48 +8,52 @@ use Rattle.records.proofs.index.bucket_of_term.Goals as goal
 pub bucket_of_text-requires : goal.bucket_of_text-requires
 bucket_of_text-requires c =
     let a = c.args in
-    text-within a.terms.now a.cells.now a.chars.now a.c a.t c.requires.fact_1 _ _ _ c.kind-k.ensures (c.wide.ensures ∙ c.first-x.ensures)
-    (c.wide-in-1.ensures ∙ c.second-y.ensures) c.requires.fact_3 (within-is 2 _ (omega (arith, c.in-1.is)) (omega (arith, c.in-1.is))) c.requires.fact_2
+    text-within a.terms.now a.cells.now a.chars.now a.c a.t c.requires.here _ _ _ c.kind-k.ensures (c.wide.ensures ∙ c.first-x.ensures)
+    (c.wide-in-Ok-Constant.ensures ∙ c.second-y.ensures) c.requires.bucketed (within-is 2 _ (let i = kind_is c.in-Ok-Constant.ensures c.in-Ok-Constant.field-0-is in omega arith) (let i = kind_is c.in-Ok-Constant.ensures c.in-Ok-Constant.field-0-is in omega arith)) c.requires.chars
 
-pub bucket_of_text-requires-in-2 : goal.bucket_of_text-requires-in-2
-bucket_of_text-requires-in-2 c =
+pub bucket_of_text-requires-in-Ok-Variable : goal.bucket_of_text-requires-in-Ok-Variable
+bucket_of_text-requires-in-Ok-Variable c =
     let a = c.args in
-    text-within a.terms.now a.cells.now a.chars.now a.c a.t c.requires.fact_1 _ _ _ c.kind-k.ensures (c.wide-in-2.ensures ∙ c.first-x.ensures)
-    (c.wide-in-2-2.ensures ∙ c.second-y.ensures) c.requires.fact_3 (within-is 2 _ (omega (arith, c.in-2.is)) (omega (arith, c.in-2.is))) c.requires.fact_2
+    text-within a.terms.now a.cells.now a.chars.now a.c a.t c.requires.here _ _ _ c.kind-k.ensures (c.wide-in-Ok-Variable.ensures ∙ c.first-x.ensures)
+    (c.wide-in-Ok-Variable-2.ensures ∙ c.second-y.ensures) c.requires.bucketed (within-is 2 _ (let i = kind_is c.in-Ok-Variable.ensures c.in-Ok-Variable.field-0-is in omega arith) (let i = kind_is c.in-Ok-Variable.ensures c.in-Ok-Variable.field-0-is in omega arith)) c.requires.chars
 
-pub bucket_of_chain-requires : goal.bucket_of_chain-requires
-bucket_of_chain-requires c =
-    c.requires.fact_3.nexts
-
-pub returns-in-1 : goal.returns-in-1
-returns-in-1 c =
+pub returns-in-Ok-Constant : goal.returns-in-Ok-Constant
+returns-in-Ok-Constant c =
     let a = c.args in
-    constant-bucket a.terms.now a.cells.now a.chars.now a.c a.t c.requires.fact_1 _ _ _ c.kind-k.ensures
-    (c.wide.ensures ∙ c.first-x.ensures) (c.wide-in-1.ensures ∙ c.second-y.ensures) c.requires.fact_3 _ c.in-1.is
-    c.bucket_of_text.ensures
+    constant-bucket a.terms.now a.cells.now a.chars.now a.c a.t c.requires.here _ _ _ c.kind-k.ensures
+    (c.wide.ensures ∙ c.first-x.ensures) (c.wide-in-Ok-Constant.ensures ∙ c.second-y.ensures) c.requires.bucketed _ (kind_is c.in-Ok-Constant.ensures c.in-Ok-Constant.field-0-is)
+    (rw (kind_is c.in-Ok-Constant.ensures c.in-Ok-Constant.field-0-is) at c.bucket_of_text.ensures)
 
-pub returns-in-2 : goal.returns-in-2
-returns-in-2 c =
+pub returns-in-Ok-Variable : goal.returns-in-Ok-Variable
+returns-in-Ok-Variable c =
     let a = c.args in
-    variable-bucket a.terms.now a.cells.now a.chars.now a.c a.t c.requires.fact_1 _ _ _ c.kind-k.ensures
-    (c.wide-in-2.ensures ∙ c.first-x.ensures) (c.wide-in-2-2.ensures ∙ c.second-y.ensures) c.requires.fact_3 _ c.in-2.is
-    c.bucket_of_text-in-2.ensures
+    variable-bucket a.terms.now a.cells.now a.chars.now a.c a.t c.requires.here _ _ _ c.kind-k.ensures
+    (c.wide-in-Ok-Variable.ensures ∙ c.first-x.ensures) (c.wide-in-Ok-Variable-2.ensures ∙ c.second-y.ensures) c.requires.bucketed _ (kind_is c.in-Ok-Variable.ensures c.in-Ok-Variable.field-0-is)
+    (rw (kind_is c.in-Ok-Variable.ensures c.in-Ok-Variable.field-0-is) at c.bucket_of_text-in-Ok-Variable.ensures)
 
-pub returns-in-3 : goal.returns-in-3
-returns-in-3 c =
+pub returns-in-Ok-Concatenation : goal.returns-in-Ok-Concatenation
+returns-in-Ok-Concatenation c =
     let a = c.args in
-    concat-bucket a.terms.now a.cells.now a.chars.now a.c a.t c.requires.fact_1 _ _ _ c.kind-k.ensures c.first-x.ensures
-    c.second-y.ensures _ c.in-3.is c.bucket_of_chain.ensures
+    concat-bucket a.terms.now a.cells.now a.chars.now a.c a.t c.requires.here _ _ _ c.kind-k.ensures c.first-x.ensures
+    c.second-y.ensures _ (kind_is c.in-Ok-Concatenation.ensures c.in-Ok-Concatenation.field-0-is) c.bucket_of_chain.ensures
 
-pub returns-in-4 : goal.returns-in-4
-returns-in-4 c =
+pub returns-in-Ok-Length : goal.returns-in-Ok-Length
+returns-in-Ok-Length c =
     let a = c.args in
-    length-bucket a.terms.now a.cells.now a.chars.now a.c a.t c.requires.fact_1 _ _ _ c.kind-k.ensures c.first-x.ensures
-    c.second-y.ensures _ c.in-4.is c.bucket_of_sides.ensures
+    length-bucket a.terms.now a.cells.now a.chars.now a.c a.t c.requires.here _ _ _ c.kind-k.ensures c.first-x.ensures
+    c.second-y.ensures _ (kind_is c.in-Ok-Length.ensures c.in-Ok-Length.field-0-is) (rw (kind_is c.in-Ok-Length.ensures c.in-Ok-Length.field-0-is) at c.bucket_of_sides.ensures)
 
-pub returns-in_default : goal.returns-in_default
-returns-in_default c =
+pub returns-in-Ok-Equation : goal.returns-in-Ok-Equation
+returns-in-Ok-Equation c =
     let a = c.args in
-    let m = c.in_default.in_default-own.rest in
-    other-bucket a.terms.now a.cells.now a.chars.now a.c a.t c.requires.fact_1 _ _ _ c.kind-k.ensures c.first-x.ensures
-    c.second-y.ensures _ m.0.0.0.1 m.0.0.1 m.0.1 m.1 c.bucket_of_sides-in_default.ensures
+    let i = kind_is c.in-Ok-Equation.ensures c.in-Ok-Equation.field-0-is in
+    other-bucket a.terms.now a.cells.now a.chars.now a.c a.t c.requires.here _ _ _ c.kind-k.ensures c.first-x.ensures
+    c.second-y.ensures _ (λ q. omega arith) (λ q. omega arith) (λ q. omega arith) (λ q. omega arith) c.bucket_of_sides-in-Ok-Equation.ensures
+
+pub returns-in-Err : goal.returns-in-Err
+returns-in-Err c =
+    let a = c.args in
+    let n = c.in-Err.ensures.1 in
+    other-bucket a.terms.now a.cells.now a.chars.now a.c a.t c.requires.here _ _ _ c.kind-k.ensures c.first-x.ensures
+    c.second-y.ensures _ (kind_none 1 n (omega arith) (omega arith)) (kind_none 2 n (omega arith) (omega arith)) (kind_none 3 n (omega arith) (omega arith)) (kind_none 4 n (omega arith) (omega arith))
+    c.bucket_of_sides-in-Err.ensures

@@ -1,11 +1,10 @@
 use Rattle.records.proofs.Lists.{below-zero}
-use Rattle.records.proofs.Refines.IndexReads.{end-not, end-turn, end-all}
-use native.Mathlib.Omega.{arith}
+use Rattle.records.proofs.Refines.IndexReads.{end-not, end-turn}
 use Rattle.records.proofs.index.chains_end.Goals as goal
 
 pub loop-b-init : goal.loop-b-init
 loop-b-init c =
-    (omega arith, below-zero _)
+    below-zero _
 
 pub returns-then-word_after-ne0 : goal.returns-then-word_after-ne0
 returns-then-word_after-ne0 c =
@@ -14,8 +13,4 @@ returns-then-word_after-ne0 c =
 pub loop-b-preserved : goal.loop-b-preserved
 loop-b-preserved c =
     let a = c.args in
-    (omega arith, end-turn a.terms.now a.ends.now c.loop-b.b _ c.word_after.ensures c.if-word_after-ne0.false c.loop-b.invariant.1)
-
-pub returns : goal.returns
-returns c =
-    let a = c.args in end-all a.terms.now a.ends.now c.loop-b.b c.loop-b.invariant.0 c.loop-b-test.false c.loop-b.invariant.1
+    end-turn a.terms.now a.ends.now c.loop-b.b _ c.word_after.ensures c.if-word_after-ne0.false c.loop-b.invariant

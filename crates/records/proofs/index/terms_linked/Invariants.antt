@@ -4,8 +4,5 @@ use Rattle.records.specs.View.{records_in}
 use Prim.Native.Nat.{◌-◌}
 use Rattle.records.proofs.index.terms_linked.Given as goal
 
-abbrev pub invariant-loop-i : goal.invariant-loop-i
-invariant-loop-i l = Reading l.terms (bucket (records_in l.terms l.cells l.chars l.c)) l.c.terms l.i l.ends
-
-abbrev pub decreases-loop-i : goal.decreases-loop-i
-decreases-loop-i l = l.c.terms - l.i
+abbrev pub invariant-loop-t : goal.invariant-loop-t
+invariant-loop-t l = Reading l.terms (bucket (records_in l.terms l.cells l.chars l.c)) l.c.terms (l.t - 1) l.ends

@@ -21,12 +21,12 @@ overflow_cast-w c =
 
 pub put_term_unchecked-requires : goal.put_term_unchecked-requires
 put_term_unchecked-requires c =
-    let h = walk-to _ _ c.requires.fact_1 _ c.bucket_of.ensures in
+    let h = walk-to _ _ c.requires.fact_1 _ (rw c.into-2.ensures at c.bucket_of.ensures) in
     record {
-      fact_1 = one-limit c.requires.fact_1.sized _ c.if-not-term_fits.false-raw c.term_fits.ensures;
-      fact_2 = one-room c.requires.fact_1.sized _ c.if-not-term_fits.false-raw c.term_fits.ensures;
-      fact_3 = h.0;
-      fact_4 = h.1;
+      limited = one-limit c.requires.fact_1.sized _ c.if-not-term_fits.false-raw c.term_fits.ensures;
+      room = one-room c.requires.fact_1.sized _ c.if-not-term_fits.false-raw c.term_fits.ensures;
+      bucket = h.0;
+      walkable = h.1;
     }
 
 pub with_chars-d-requires : goal.with_chars-d-requires
@@ -47,6 +47,6 @@ with_term-requires c =
 
 pub returns : goal.returns
 returns c =
-    text-made _ _ _ refl _ c.text_fits.ensures c.if-not-text_fits.false-raw _ c.term_fits.ensures c.requires.fact_1 c.requires.fact_2 _ c.bucket_of.ensures c.if-not-term_fits.false-raw
-    c.put_text_unchecked.ensures c.put_text_unchecked.auto.chars c.put_term_unchecked.ensures
+    text-made _ _ _ refl _ c.text_fits.ensures c.if-not-text_fits.false-raw _ c.term_fits.ensures c.requires.fact_1 c.requires.fact_2 _ (rw c.into-2.ensures at c.bucket_of.ensures) c.if-not-term_fits.false-raw
+    c.put_text_unchecked.ensures c.put_text_unchecked.auto.chars (rw c.into.ensures at c.put_term_unchecked.ensures)
     c.put_term_unchecked.auto.terms c.with_chars-d.ensures c.with_term.ensures

@@ -1,15 +1,13 @@
-use Rattle.records.proofs.Refines.Making.{other-kind, other_length, same_kind}
+use Rattle.records.specs.Working.Leaves.{has_text}
+use Rattle.records.proofs.Refines.Making.{word_long, word_spelled}
+use Rattle.std.proofs.lemmas.Bool.Decides.{nat_tests}
+use native.Mathlib.Omega.{arith}
 use Rattle.records.proofs.make.has_text.Goals as goal
 
-pub returns-then-kind-k : goal.returns-then-kind-k
-returns-then-kind-k c =
-    other-kind _ _ _ _ _ _ c.kind.ensures c.if-kind-k.true
+pub returns-then-second-w : goal.returns-then-second-w
+unfolding has_text
+returns-then-second-w c = let a = c.args in let e = word_spelled a.terms.now a.chars.now a.w.now a.t in grind (arith, nat_tests)
 
-pub returns-then-n-w : goal.returns-then-n-w
-returns-then-n-w c =
-    other_length _ _ _ _ _ _ c.kind.ensures _ c.second-n.ensures c.if-n-w.true
-
-pub returns : goal.returns
-returns c =
-    same_kind _ _ _ _ _ _ c.kind.ensures _ c.second-n.ensures _ _ c.if-kind-k.false c.if-n-w.false c.first.ensures
-    c.text_is.ensures
+pub returns-else-second-w : goal.returns-else-second-w
+unfolding has_text
+returns-else-second-w c = let a = c.args in let e = word_long a.terms.now a.chars.now a.w.now a.t in grind (arith, nat_tests)

@@ -57,10 +57,10 @@ pub put_term_unchecked-requires : goal.put_term_unchecked-requires
 put_term_unchecked-requires c =
     let h = walk-to 1 _ c.requires.ready _ c.bucket_of_joined-b.ensures in
     record {
-      fact_1 = one-limit c.requires.ready.sized _ c.if-not-term_fits.false-raw c.term_fits.ensures;
-      fact_2 = one-room c.requires.ready.sized _ c.if-not-term_fits.false-raw c.term_fits.ensures;
-      fact_3 = h.0;
-      fact_4 = h.1;
+      limited = one-limit c.requires.ready.sized _ c.if-not-term_fits.false-raw c.term_fits.ensures;
+      room = one-room c.requires.ready.sized _ c.if-not-term_fits.false-raw c.term_fits.ensures;
+      bucket = h.0;
+      walkable = h.1;
     }
 
 pub with_chars-d-requires : goal.with_chars-d-requires
@@ -87,5 +87,5 @@ returns c =
     (text-made 1 _ _ (total_long c.requires.ready _ _ c.joined_length_unchecked-total.ensures) _ c.text_fits.ensures
     c.if-not-text_fits.false-raw _ c.term_fits.ensures c.requires.ready refl _ c.bucket_of_joined-b.ensures c.if-not-term_fits.false-raw
     c.put_joined_unchecked.ensures
-    c.put_joined_unchecked.auto.chars c.put_term_unchecked.ensures c.put_term_unchecked.auto.terms
+    c.put_joined_unchecked.auto.chars (rw c.into.ensures at c.put_term_unchecked.ensures) c.put_term_unchecked.auto.terms
     c.with_chars-d.ensures c.with_term.ensures))

@@ -1,3 +1,6 @@
+use mathlib.Core.Path.{◌≡◌}
+use native.Mathlib.Omega.{arith}
+use Rattle.records.specs.Make.{name_limit}
 use Rattle.records.proofs.Naming.{passed_none, passed_one, free_here, free-none}
 use Rattle.records.proofs.names.free_name.Goals as goal
 
@@ -15,4 +18,4 @@ loop-x-preserved c =
 
 pub returns : goal.returns
 returns c =
-    search free-none
+    let e : c.loop-x.x ≡ name_limit = omega arith in rw e at (free-none _ _ c.loop-x.invariant c.loop-x-test.false)

@@ -1,10 +1,9 @@
-use Rattle.records.proofs.Lists.{any-zero, any-turn, any-stop, any-done}
-use native.Mathlib.Omega.{arith}
+use Rattle.records.proofs.Lists.{any-zero, any-turn, any-stop}
 use Rattle.records.proofs.put.has_pair.Goals as goal
 
 pub loop-i-init : goal.loop-i-init
 loop-i-init c =
-    (omega arith, any-zero _ _)
+    any-zero _ _
 
 pub returns-then-pair_is_unchecked : goal.returns-then-pair_is_unchecked
 returns-then-pair_is_unchecked c =
@@ -12,8 +11,4 @@ returns-then-pair_is_unchecked c =
 
 pub loop-i-preserved : goal.loop-i-preserved
 loop-i-preserved c =
-    (omega arith, search any-turn)
-
-pub returns : goal.returns
-returns c =
-    search any-done
+    search any-turn

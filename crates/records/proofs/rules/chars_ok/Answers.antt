@@ -1,28 +1,10 @@
-use Rattle.records.proofs.Lists.{below-zero, table-stop, below-turn, table_done}
+use Rattle.std.proofs.Common.{rules}
+use Rattle.std.proofs.lemmas.Iterator.{YieldsList-from_slice}
+use Rattle.std.proofs.lemmas.Iterator.Search.{all_from_yields_List}
+use mathlib.Core.Path.{◌∙◌}
 use Rattle.records.specs.Rules.{is_char}
-use lib.ListN.{get_or}
-use mathlib.Core.Path.{◌∙◌, ap}
-use native.Mathlib.Omega.{arith}
+use Rattle.records.proofs.Lists.{all-list}
 use Rattle.records.proofs.rules.chars_ok.Goals as goal
 
-pub loop-i-init : goal.loop-i-init
-loop-i-init c =
-    (omega arith, below-zero _)
-
-pub returns-then-not-is_char : goal.returns-then-not-is_char
-returns-then-not-is_char c =
-    let a = c.args in
-    table-stop is_char (λ j. get_or a.chars.now j 0) a.n c.loop-i.i _ (c.is_char.ensures ∙ ap is_char c.word.ensures) c.if-not-is_char.true-raw
-    c.loop-i-test.true
-
-pub loop-i-preserved : goal.loop-i-preserved
-loop-i-preserved c =
-    let o = c.loop-i in (
-      omega arith,
-      below-turn (λ j. is_char (get_or c.args.chars.now j 0)) o.i _ (c.is_char.ensures ∙ ap is_char c.word.ensures) c.if-not-is_char.false-raw
-          o.invariant.1,
-    )
-
 pub returns : goal.returns
-returns c =
-    let a = c.args in let o = c.loop-i in table_done is_char (λ j. get_or a.chars.now j 0) a.n o.i o.invariant.0 c.loop-i-test.false o.invariant.1
+returns c = all_from_yields_List is_char _ _ _ c.all.ensures.ran (YieldsList-from_slice c.args.w.now (search rules)) (λ x b q k. search rules) ∙ all-list is_char c.args.w.now

@@ -1,15 +1,13 @@
+use Rattle.records.specs.Rules.{equation_rule}
 use Rattle.records.proofs.Views.{first-at, second_at}
-use Rattle.records.proofs.Refines.RuleLaws.{equation_first_lem, equation_second_lem, equation-is}
+use Rattle.std.proofs.lemmas.Bool.Decides.{nat_tests}
+use native.Mathlib.Omega.{arith}
 use Rattle.records.proofs.rules.equation_ok.Goals as goal
 
-pub returns-then-t-a : goal.returns-then-t-a
-returns-then-t-a c =
-    search (equation_first_lem, first-at)
+pub returns-then-b-t : goal.returns-then-b-t
+unfolding equation_rule
+returns-then-b-t c = let u = first-at c.args.terms.now _ _ _ c.requires c.first-a.ensures in let o = second_at c.args.terms.now _ _ _ c.requires c.second-b.ensures in grind (arith, nat_tests)
 
-pub returns-then-t-b : goal.returns-then-t-b
-returns-then-t-b c =
-    search (equation_second_lem, second_at)
-
-pub returns : goal.returns
-returns c =
-    search (equation-is, first-at, second_at)
+pub returns-else-b-t : goal.returns-else-b-t
+unfolding equation_rule
+returns-else-b-t c = let u = first-at c.args.terms.now _ _ _ c.requires c.first-a.ensures in let o = second_at c.args.terms.now _ _ _ c.requires c.second-b.ensures in grind (arith, nat_tests)

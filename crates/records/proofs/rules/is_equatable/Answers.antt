@@ -1,14 +1,16 @@
-use Rattle.records.proofs.Refines.RuleLaws.{equatable_strings, equatable_none, equatable_lengths}
+use Rattle.records.specs.Rules.{is_equatable}
+use Rattle.std.proofs.lemmas.Bool.Decides.{nat_tests}
+use native.Mathlib.Omega.{arith}
 use Rattle.records.proofs.rules.is_equatable.Goals as goal
 
-pub returns-then-is_string : goal.returns-then-is_string
-returns-then-is_string c =
-    search equatable_strings
+pub returns-then-is_string-2 : goal.returns-then-is_string-2
+unfolding is_equatable
+returns-then-is_string-2 c = grind (arith, nat_tests)
 
-pub returns-then-kind_of-ne4 : goal.returns-then-kind_of-ne4
-returns-then-kind_of-ne4 c =
-    search equatable_none
+pub returns-then-is_a : goal.returns-then-is_a
+unfolding is_equatable
+returns-then-is_a c = grind (arith, nat_tests)
 
-pub returns : goal.returns
-returns c =
-    search equatable_lengths
+pub returns-else-is_a : goal.returns-else-is_a
+unfolding is_equatable
+returns-else-is_a c = grind (arith, nat_tests)

@@ -1,14 +1,12 @@
-use Rattle.records.proofs.Refines.RuleLaws.{key_order, key_first, key_is}
+use Rattle.records.specs.Rules.{key_rule}
+use Rattle.std.proofs.lemmas.Bool.Decides.{nat_tests}
+use native.Mathlib.Omega.{arith}
 use Rattle.records.proofs.rules.key_ok.Goals as goal
 
-pub returns-then-b-a : goal.returns-then-b-a
-returns-then-b-a c =
-    search key_order
+pub returns-then-is_string : goal.returns-then-is_string
+unfolding key_rule
+returns-then-is_string c = grind (arith, nat_tests)
 
-pub returns-then-not-is_string : goal.returns-then-not-is_string
-returns-then-not-is_string c =
-    search key_first
-
-pub returns : goal.returns
-returns c =
-    search key_is
+pub returns-else-is_string : goal.returns-else-is_string
+unfolding key_rule
+returns-else-is_string c = grind (arith, nat_tests)

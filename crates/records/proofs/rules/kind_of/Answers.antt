@@ -1,14 +1,10 @@
-use Rattle.records.proofs.Refines.RuleLaws.{kind-none, kind-past, kind_is}
+use mathlib.Core.Path.{sym, ◌∙◌}
+use Rattle.records.proofs.Views.{kind_at}
+use Rattle.records.proofs.Refines.RuleLaws.{kind-none}
 use Rattle.records.proofs.rules.kind_of.Goals as goal
 
-pub returns-then-t-eq0 : goal.returns-then-t-eq0
-returns-then-t-eq0 c =
-    search kind-none
+pub returns-then-is_within : goal.returns-then-is_within
+returns-then-is_within c = kind_at c.args.terms.now _ _ _ (sym c.is_within.ensures ∙ c.if-is_within.true) c.kind.ensures
 
-pub returns-then-n-wide : goal.returns-then-n-wide
-returns-then-n-wide c =
-    search kind-past
-
-pub returns : goal.returns
-returns c =
-    search kind_is
+pub returns-else-is_within : goal.returns-else-is_within
+returns-else-is_within c = kind-none c.args.terms.now _ _ (sym c.is_within.ensures ∙ c.if-is_within.false)

@@ -1,15 +1,13 @@
+use Rattle.records.specs.Rules.{length_rule}
 use Rattle.records.proofs.Views.{first-at, second_at}
-use Rattle.records.proofs.Refines.RuleLaws.{length_second_lem, length_upper, length_is_lem}
+use Rattle.std.proofs.lemmas.Bool.Decides.{nat_tests}
+use native.Mathlib.Omega.{arith}
 use Rattle.records.proofs.rules.length_ok.Goals as goal
 
-pub returns-then-o-ne0 : goal.returns-then-o-ne0
-returns-then-o-ne0 c =
-    length_second_lem _ _ _ c.if-o-ne0.true (second_at c.args.terms.now _ _ _ c.requires c.second-o.ensures)
+pub returns-then-u-t : goal.returns-then-u-t
+unfolding length_rule
+returns-then-u-t c = let u = first-at c.args.terms.now _ _ _ c.requires c.first-u.ensures in let o = second_at c.args.terms.now _ _ _ c.requires c.second.ensures in grind (arith, nat_tests)
 
-pub returns-then-t-u : goal.returns-then-t-u
-returns-then-t-u c =
-    search (length_upper, first-at)
-
-pub returns : goal.returns
-returns c =
-    search (length_is_lem, first-at, second_at)
+pub returns-else-u-t : goal.returns-else-u-t
+unfolding length_rule
+returns-else-u-t c = let u = first-at c.args.terms.now _ _ _ c.requires c.first-u.ensures in let o = second_at c.args.terms.now _ _ _ c.requires c.second.ensures in grind (arith, nat_tests)

@@ -1,15 +1,13 @@
+use Rattle.records.specs.Rules.{part_rule}
 use Rattle.records.proofs.Views.{value-at, other_at}
-use Rattle.records.proofs.Refines.RuleLaws.{part-other, part_upper, part-is}
+use Rattle.std.proofs.lemmas.Bool.Decides.{nat_tests}
+use native.Mathlib.Omega.{arith}
 use Rattle.records.proofs.rules.part_ok.Goals as goal
 
-pub returns-then-o-ne0 : goal.returns-then-o-ne0
-returns-then-o-ne0 c =
-    part-other _ _ _ _ _ c.if-o-ne0.true (other_at c.args.cells.now _ _ _ c.requires c.other-o.ensures)
+pub returns-then-u-t : goal.returns-then-u-t
+unfolding part_rule
+returns-then-u-t c = let u = value-at c.args.cells.now _ _ _ c.requires c.value-u.ensures in let o = other_at c.args.cells.now _ _ _ c.requires c.other.ensures in grind (arith, nat_tests)
 
-pub returns-then-t-u : goal.returns-then-t-u
-returns-then-t-u c =
-    search (part_upper, value-at)
-
-pub returns : goal.returns
-returns c =
-    search (part-is, value-at, other_at)
+pub returns-else-u-t : goal.returns-else-u-t
+unfolding part_rule
+returns-else-u-t c = let u = value-at c.args.cells.now _ _ _ c.requires c.value-u.ensures in let o = other_at c.args.cells.now _ _ _ c.requires c.other.ensures in grind (arith, nat_tests)

@@ -1,14 +1,12 @@
-use Rattle.records.proofs.Refines.RuleLaws.{reason_is, reason_low, reason_high}
+use Rattle.records.specs.Rules.{reason_rule}
+use Rattle.std.proofs.lemmas.Bool.Decides.{nat_tests}
+use native.Mathlib.Omega.{arith}
 use Rattle.records.proofs.rules.reason_ok.Goals as goal
 
-pub returns-in-1 : goal.returns-in-1
-returns-in-1 c =
-    search reason_is
+pub returns-then-is_reason_kind : goal.returns-then-is_reason_kind
+unfolding reason_rule
+returns-then-is_reason_kind c = grind (arith, nat_tests)
 
-pub returns-in_default : goal.returns-in_default
-returns-in_default c =
-    search reason_low
-
-pub returns-in_default-2 : goal.returns-in_default-2
-returns-in_default-2 c =
-    search reason_high
+pub returns-else-is_reason_kind : goal.returns-else-is_reason_kind
+unfolding reason_rule
+returns-else-is_reason_kind c = grind (arith, nat_tests)

@@ -1,25 +1,34 @@
-use Rattle.records.proofs.Refines.TermLaws.{records_terms, records_cells, records_chars, records_reasons, records_is}
+use Rattle.records.specs.Rules.{records_rule, reason_rule, key_rule}
+use Rattle.records.specs.View.{termed}
+use Rattle.records.proofs.Refines.TermLaws.{terms-of, cells_of, keys_of}
+use Rattle.records.proofs.Refines.Texts.{view-take}
+use native.Mathlib.Omega.{arith}
+use borrow.Author.Rules.{rules}
+use Rattle.records.proofs.rules.records_ok.Goals.{then-chars_ok, else-chars_ok}
 use Rattle.records.proofs.rules.records_ok.Goals as goal
 
-pub returns-then-not-terms_ok : goal.returns-then-not-terms_ok
-returns-then-not-terms_ok c =
-    let a = c.args in records_terms a.terms.now a.cells.now a.chars.now a.reasons.now a.keys.now a.c _ c.terms_ok.ensures c.if-not-terms_ok.true-raw
-
-pub returns-then-not-cells_ok : goal.returns-then-not-cells_ok
-returns-then-not-cells_ok c =
+pub returns-then-pairs_pass : goal.returns-then-pairs_pass
+unfolding records_rule
+returns-then-pairs_pass c =
     let a = c.args in
-    records_cells a.terms.now a.cells.now a.chars.now a.reasons.now a.keys.now a.c _ c.terms_ok.ensures _ c.cells_ok.ensures c.if-not-cells_ok.true-raw
+    let t = terms-of a.terms.now a.cells.now a.chars.now a.reasons.now a.keys.now a.c in
+    let v = view-take a.chars.now a.c.chars c.requires.char_room in
+    let d = cells_of a.terms.now a.cells.now a.chars.now a.reasons.now a.keys.now a.c in
+    let k = keys_of a.terms.now a.cells.now a.chars.now a.reasons.now a.keys.now a.c in
+    let p = c.pairs_pass-then-pairs_pass.ensures (key_rule (termed a.terms.now a.c)) (λ x y r h. search rules) in
+    elim c.if-chars_ok.branch [
+      | then-chars_ok w ↦ (let q = w.pairs_pass.ensures reason_rule (λ x y r h. search rules) in grind arith)
+      | else-chars_ok w ↦ grind arith
+    ]
 
-pub returns-then-not-chars_ok : goal.returns-then-not-chars_ok
-returns-then-not-chars_ok c =
-    let a = c.args in records_chars a.terms.now a.cells.now a.chars.now a.reasons.now a.keys.now a.c _ c.chars_ok.ensures c.if-not-chars_ok.true-raw
-
-pub returns-then-not-pairs_pass : goal.returns-then-not-pairs_pass
-returns-then-not-pairs_pass c =
+pub returns-else-pairs_pass : goal.returns-else-pairs_pass
+unfolding records_rule
+returns-else-pairs_pass c =
     let a = c.args in
-    records_reasons a.terms.now a.cells.now a.chars.now a.reasons.now a.keys.now a.c _ c.pairs_pass.ensures c.if-not-pairs_pass.true-raw
-
-pub returns : goal.returns
-returns c =
-    let a = c.args in
-    records_is a.terms.now a.cells.now a.chars.now a.reasons.now a.keys.now a.c _ c.terms_ok.ensures _ c.cells_ok.ensures _ _ _ c.if-not-terms_ok.false-raw c.if-not-cells_ok.false-raw c.chars_ok.ensures c.if-not-chars_ok.false-raw c.pairs_pass.ensures c.if-not-pairs_pass.false-raw c.pairs_pass-2.ensures
+    let t = terms-of a.terms.now a.cells.now a.chars.now a.reasons.now a.keys.now a.c in
+    let v = view-take a.chars.now a.c.chars c.requires.char_room in
+    let d = cells_of a.terms.now a.cells.now a.chars.now a.reasons.now a.keys.now a.c in
+    elim c.if-chars_ok.branch [
+      | then-chars_ok w ↦ (let q = w.pairs_pass.ensures reason_rule (λ x y r h. search rules) in grind arith)
+      | else-chars_ok w ↦ grind arith
+    ]

@@ -14,10 +14,10 @@ overflow_add-to c =
 pub copy_text-requires : goal.copy_text-requires
 copy_text-requires c =
     record {
-      fact_1 = let given = c.args in
+      below = let given = c.args in
           part-below given.terms.now given.chars.now given.list.now given.to given.i given.held
           c.requires.texts_within c.requires.list_in_bounds c.requires.i_in_bounds c.requires.holds_join _ _ c.first-from.ensures c.second-next.ensures;
-      fact_2 = let given = c.args in part_room given.terms.now given.chars.now given.list.now given.to given.i given.held
+      room = let given = c.args in part_room given.terms.now given.chars.now given.list.now given.to given.i given.held
           c.requires.texts_within c.requires.list_in_bounds c.requires.i_in_bounds c.requires.holds_join _ _ c.first-from.ensures c.second-next.ensures;
     }
 

@@ -1,10 +1,5 @@
 use Rattle.records.proofs.Refines.JoinedTexts.{Joined}
-use lib.ListN.{length}
-use Prim.Native.Nat.{◌-◌}
 use Rattle.records.proofs.text.put_joined_unchecked.Given as goal
 
 abbrev pub invariant-loop-i : goal.invariant-loop-i
 invariant-loop-i l = Joined l.terms l.initial.chars l.list l.to l.chars l.held l.i
-
-abbrev pub decreases-loop-i : goal.decreases-loop-i
-decreases-loop-i l = length l.list - l.i

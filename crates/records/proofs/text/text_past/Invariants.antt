@@ -1,10 +1,5 @@
 use Rattle.records.proofs.Refines.Texts.{Agreed}
-use lib.ListN.{length}
-use Prim.Native.Nat.{◌-◌}
 use Rattle.records.proofs.text.text_past.Given as goal
 
 abbrev pub invariant-loop-i : goal.invariant-loop-i
 invariant-loop-i l = Agreed l.chars l.w l.at l.i
-
-abbrev pub decreases-loop-i : goal.decreases-loop-i
-decreases-loop-i l = length l.w - l.i

@@ -2,9 +2,9 @@ use Rattle.records.proofs.Refines.NameLaws.{walk_start, walk-hashed, tables-room
 use native.Mathlib.Omega.{arith}
 use Rattle.records.proofs.unique.name_ok.Goals as goal
 
-pub returns-then-n-eq0 : goal.returns-then-n-eq0
-returns-then-n-eq0 c =
-    let a = c.args in name_empty a.terms.now a.chars.now a.c a.m a.t c.requires.1 _ c.second-n.ensures c.if-n-eq0.true
+pub returns-then-second-eq0 : goal.returns-then-second-eq0
+returns-then-second-eq0 c =
+    let a = c.args in name_empty a.terms.now a.chars.now a.c a.m a.t c.requires.1 _ c.second.ensures c.if-second-eq0.true
 
 pub loop-u-init : goal.loop-u-init
 loop-u-init c =
@@ -25,11 +25,6 @@ pub returns-then-is_named : goal.returns-then-is_named
 returns-then-is_named c =
     let a = c.args in
     let o = c.loop-u in name_taken a.terms.now a.chars.now a.c a.m a.t c.requires.1 o.u o.invariant _ c.is_named.ensures c.if-is_named.true
-
-pub offset_bounds-links-u : goal.offset_bounds-links-u
-offset_bounds-links-u c =
-    let a = c.args in
-    let r = c.requires in let i = tables-room a.terms.now a.chars.now a.c _ _ _ a.t r.2 r.1.variable in omega (arith, c.loop-u.invariant.lower)
 
 pub bounds-links-u : goal.bounds-links-u
 bounds-links-u c =
@@ -54,4 +49,4 @@ pub returns : goal.returns
 returns c =
     let a = c.args in
     let o = c.loop-u in
-    name_free a.terms.now a.chars.now a.c a.m a.t c.requires.1 o.u o.invariant _ c.second-n.ensures c.if-n-eq0.false c.loop-u-test.false
+    name_free a.terms.now a.chars.now a.c a.m a.t c.requires.1 o.u o.invariant _ c.second.ensures c.if-second-eq0.false c.loop-u-test.false

@@ -1,6 +1,6 @@
 use mathlib.Core.Path.{sym, ◌∙◌}
 use mathlib.Core.List.{[]}
-use Rattle.records.proofs.Lists.{and-stop, and-next, failed, passed}
+use Rattle.records.proofs.Lists.{and-stop, and-next}
 use Rattle.records.proofs.Refines.NameLaws.{variable-within, text_anywhere, tables-room, tables-keep, passing-not}
 use Rattle.records.proofs.unique.variable_ok.Goals as goal
 
@@ -12,27 +12,20 @@ pub returns-then-not-text_ok : goal.returns-then-not-text_ok
 returns-then-not-text_ok c =
     let a = c.args in
     passing-not a.terms.now a.chars.now a.c _ _ _ _ _
-    (and-stop _ _ (failed _ _ (c.text_ok.ensures ∙ text_anywhere a.terms.now [] [] [] a.chars.now a.c a.t) c.if-not-text_ok.true-raw))
+    (and-stop _ _ (sym (c.text_ok.ensures ∙ text_anywhere a.terms.now [] [] [] a.chars.now a.c a.t) ∙ c.if-not-text_ok.true))
 
 pub name_hash-m-requires : goal.name_hash-m-requires
 name_hash-m-requires c =
     let a = c.args in
-    (c.requires.0, c.requires.1, passed _ _ (c.text_ok.ensures ∙ text_anywhere a.terms.now [] [] [] a.chars.now a.c a.t) c.if-not-text_ok.false-raw)
+    (c.requires.0, c.requires.1, sym (c.text_ok.ensures ∙ text_anywhere a.terms.now [] [] [] a.chars.now a.c a.t) ∙ c.if-not-text_ok.false)
 
 pub name_ok-requires : goal.name_ok-requires
 name_ok-requires c =
     let a = c.args in (
       c.requires.0,
-      record { variable = c.requires.1; fits = passed _ _ (c.text_ok.ensures ∙ text_anywhere a.terms.now [] [] [] a.chars.now a.c a.t) c.if-not-text_ok.false-raw; hashed = c.name_hash-m.ensures },
+      record { variable = c.requires.1; fits = sym (c.text_ok.ensures ∙ text_anywhere a.terms.now [] [] [] a.chars.now a.c a.t) ∙ c.if-not-text_ok.false; hashed = c.name_hash-m.ensures },
       c.requires.2,
     )
-
-pub returns-then-not-name_ok : goal.returns-then-not-name_ok
-returns-then-not-name_ok c =
-    let a = c.args in
-    passing-not a.terms.now a.chars.now a.c _ _ _ _ _
-    (and-next _ _ _ (passed _ _ (c.text_ok.ensures ∙ text_anywhere a.terms.now [] [] [] a.chars.now a.c a.t) c.if-not-text_ok.false-raw)
-    (sym (failed _ _ c.name_ok.ensures c.if-not-name_ok.true-raw)))
 
 pub bounds-hashes-t : goal.bounds-hashes-t
 bounds-hashes-t c =
@@ -45,5 +38,5 @@ bounds-links-t c =
 pub returns : goal.returns
 returns c =
     let a = c.args in
-    let f = passed _ _ (c.text_ok.ensures ∙ text_anywhere a.terms.now [] [] [] a.chars.now a.c a.t) c.if-not-text_ok.false-raw in
-    record { passes = and-next _ _ _ f (sym (passed _ _ c.name_ok.ensures c.if-not-name_ok.false-raw)); tables = λ z. tables-keep a.terms.now a.chars.now a.c _ _ _ a.t c.requires.2 c.name_hash-m.result (record { variable = c.requires.1; fits = f; hashed = c.name_hash-m.ensures }) }
+    let f = sym (c.text_ok.ensures ∙ text_anywhere a.terms.now [] [] [] a.chars.now a.c a.t) ∙ c.if-not-text_ok.false in
+    record { passes = and-next _ _ _ f (sym (sym c.name_ok.ensures ∙ c.if-not-name_ok.false)); tables = λ z. tables-keep a.terms.now a.chars.now a.c _ _ _ a.t c.requires.2 c.name_hash-m.result (record { variable = c.requires.1; fits = f; hashed = c.name_hash-m.ensures }) }

@@ -1,69 +1,45 @@
-use mathlib.Core.Path.{refl, sym}
+use mathlib.Core.Path.{sym, ◌∙◌}
+use borrow.Author.Tests.{eqb-true}
 use Rattle.sides.proofs.Refines.ExplainingEach.{citing-none, citing-end, citing-pair, citing-class, citing-refused, citing-turn}
+use Rattle.records.proofs.Public.{handed}
 use native.Mathlib.Omega.{arith}
-use borrow.Author.Rules.{rules}
 use Rattle.sides.proofs.explaining.explain_all_unchecked.Goals as goal
 
-pub returns-then-side-eq0 : goal.returns-then-side-eq0
-returns-then-side-eq0 c =
+pub returns-then-is_empty : goal.returns-then-is_empty
+returns-then-is_empty c =
     citing-end c.args.terms.now c.args.cells.now c.args.chars.now c.args.keys.now c.args.side.now
     c.args.v
     (citing-none c.args.terms.now c.args.cells.now c.args.chars.now c.args.keys.now c.args.side.now
     c.args.v c.requires.ready)
-    (let z = c.if-side-eq0.true in omega arith)
+    (let z = eqb-true _ 0 (sym c.is_empty.ensures ∙ c.if-is_empty.true) in omega arith)
 
-pub loop-i-init : goal.loop-i-init
-loop-i-init c = (
-  omega arith,
-  (
-    refl,
+pub loop-u-init : goal.loop-u-init
+loop-u-init c =
     citing-none c.args.terms.now c.args.cells.now c.args.chars.now c.args.keys.now c.args.side.now
-        c.args.v c.requires.ready,
-  ),
-  refl,
-)
+    c.args.v c.requires.ready
 
-pub slice_bounds-explain_atom-end : goal.slice_bounds-explain_atom-end
-slice_bounds-explain_atom-end c =
-    sym c.loop-i.invariant.2
+pub explain_atom-requires-clause-pair : goal.explain_atom-requires-clause-pair
+explain_atom-requires-clause-pair c =
+    citing-pair c.args.terms.now c.args.cells.now c.args.chars.now c.args.keys.now c.args.side.now
+    c.args.v c.loop-u.invariant c.loop-u-test.true c.requires.pairs c.requires.one_class
 
-pub explain_atom-requires : goal.explain_atom-requires
-explain_atom-requires c =
-    record {
-      ready = c.loop-i.invariant.1.1.going.ready;
-      pair = citing-pair c.args.terms.now c.args.cells.now c.args.chars.now c.args.keys.now c.args.side.now
-          c.args.v c.loop-i.invariant.1.1 c.loop-i-test.true c.requires.every c.requires.every_2;
-      one_class = citing-class c.args.terms.now c.args.cells.now c.args.chars.now c.args.keys.now c.args.side.now
-          c.args.v c.loop-i.invariant.1.1 c.loop-i-test.true c.requires.every c.requires.every_2;
-    }
+pub explain_atom-requires-clause-one_class : goal.explain_atom-requires-clause-one_class
+explain_atom-requires-clause-one_class c =
+    citing-class c.args.terms.now c.args.cells.now c.args.chars.now c.args.keys.now c.args.side.now
+    c.args.v c.loop-u.invariant c.loop-u-test.true c.requires.pairs c.requires.one_class
 
-pub returns-in-Refused : goal.returns-in-Refused
-returns-in-Refused c =
-    citing-refused c.args.terms.now c.args.cells.now c.args.chars.now c.args.keys.now c.args.side.now
-    c.args.v c.loop-i.invariant.1.1 c.loop-i-test.true c.requires.every c.requires.every_2 _ _ c.explain_atom.ensures _
-    c.in-Refused.is
+pub returns-in_err-d : goal.returns-in_err-d
+returns-in_err-d c =
+    rw (handed _ c.from_residual.ensures.1)
+    (citing-refused c.args.terms.now c.args.cells.now c.args.chars.now c.args.keys.now c.args.side.now
+    c.args.v c.loop-u.invariant c.loop-u-test.true c.requires.pairs c.requires.one_class _ _ c.in_err-d.ensures)
 
-pub overflow_add-i : goal.overflow_add-i
-overflow_add-i c =
-    search (rules, c.loop-i-test.true, c.well_formed)
-
-pub loop-i-smaller : goal.loop-i-smaller
-loop-i-smaller c =
-    (let p = c.loop-i-test.true in omega arith)
-
-pub loop-i-preserved : goal.loop-i-preserved
-loop-i-preserved c = (
-  let p = c.loop-i-test.true in omega arith,
-  (
-    search rules,
+pub loop-u-preserved : goal.loop-u-preserved
+loop-u-preserved c =
     citing-turn c.args.terms.now c.args.cells.now c.args.chars.now c.args.keys.now c.args.side.now
-        c.args.v c.loop-i.invariant.1.1 c.loop-i-test.true c.requires.every c.requires.every_2 _ _ c.explain_atom.ensures
-        _ c.in-Counts.is,
-  ),
-  search rules,
-)
+    c.args.v c.loop-u.invariant c.loop-u-test.true c.requires.pairs c.requires.one_class _ _ c.in_ok-d.ensures
 
 pub returns : goal.returns
 returns c =
     citing-end c.args.terms.now c.args.cells.now c.args.chars.now c.args.keys.now c.args.side.now
-    c.args.v c.loop-i.invariant.1.1 c.loop-i-test.false
+    c.args.v c.loop-u.invariant c.loop-u-test.false

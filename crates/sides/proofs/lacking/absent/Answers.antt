@@ -1,6 +1,3 @@
-use mathlib.Core.Path.{◌∙◌}
-use Prim.Native.Nat.{ℕ}
-use lib.ListN.{length-replicate}
 use Rattle.sides.proofs.Refines.LackingSides.{absent-not, absent-bare, absent-is}
 use Rattle.sides.proofs.lacking.absent.Goals as goal
 
@@ -9,22 +6,10 @@ returns-then-not-is_fixed c =
     absent-not c.args.terms.now c.args.chars.now c.args.c c.args.l.now c.args.r.now _ c.is_fixed.ensures
     c.if-not-is_fixed.true-raw
 
-pub letters_length_unchecked-requires : goal.letters_length_unchecked-requires
-letters_length_unchecked-requires c =
-    (c.requires.0.texts, c.requires.1)
-
 pub returns-then-letters_length_unchecked-eq0 : goal.returns-then-letters_length_unchecked-eq0
 returns-then-letters_length_unchecked-eq0 c =
     absent-bare c.args.terms.now c.args.chars.now c.args.c c.args.l.now c.args.r.now c.requires.0.texts _
     c.letters_length_unchecked.ensures c.if-letters_length_unchecked-eq0.true
-
-pub use_side-requires : goal.use_side-requires
-use_side-requires c =
-    (c.requires.0.texts, length-replicate {A = ℕ} 16384 0)
-
-pub lacks_side-requires : goal.lacks_side-requires
-lacks_side-requires c =
-    (c.requires.0, c.use_side.ensures.size ∙ length-replicate {A = ℕ} 16384 0)
 
 pub returns : goal.returns
 returns c =

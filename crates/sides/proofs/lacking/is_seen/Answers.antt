@@ -1,4 +1,4 @@
-use Rattle.sides.proofs.Refines.LackingPlaces.{unseen_none, unseen_stop, unseen_one, unseen_done}
+use Rattle.sides.proofs.Refines.LackingPlaces.{unseen_none, unseen_stop, unseen_one}
 use Rattle.sides.proofs.lacking.is_seen.Goals as goal
 
 pub loop-i-init : goal.loop-i-init
@@ -12,7 +12,3 @@ returns-then-used_at c =
 pub loop-i-preserved : goal.loop-i-preserved
 loop-i-preserved c =
     unseen_one _ _ _ _ _ c.loop-i.invariant _ c.used_at.ensures c.loop-i-test.true c.if-used_at.false
-
-pub returns : goal.returns
-returns c =
-    unseen_done _ _ _ _ _ c.loop-i.invariant c.loop-i-test.false

@@ -1,9 +1,5 @@
 use Rattle.sides.proofs.Refines.LackingPlaces.{Unseen}
-use Prim.Native.Nat.{◌-◌}
 use Rattle.sides.proofs.lacking.is_seen.Given as goal
 
 abbrev pub invariant-loop-i : goal.invariant-loop-i
 invariant-loop-i l = Unseen l.chars l.table l.n l.x l.i
-
-abbrev pub decreases-loop-i : goal.decreases-loop-i
-decreases-loop-i l = l.n - l.i

@@ -1,4 +1,4 @@
-use Rattle.sides.proofs.Refines.LackingSides.{looked_none, looked_stop, looked_one, looked_done}
+use Rattle.sides.proofs.Refines.LackingSides.{looked_none, looked_stop, looked_one}
 use Rattle.sides.proofs.lacking.lacks_text.Goals as goal
 
 pub loop-j-init : goal.loop-j-init
@@ -13,7 +13,3 @@ pub loop-j-preserved : goal.loop-j-preserved
 loop-j-preserved c =
     looked_one _ _ _ _ _ _ _ c.loop-j.invariant _ c.is_known.ensures c.loop-j-test.true c.requires.2 c.requires.1 c.requires.3
     c.if-not-is_known.false-raw
-
-pub returns : goal.returns
-returns c =
-    looked_done _ _ _ _ _ _ _ c.loop-j.invariant c.loop-j-test.false

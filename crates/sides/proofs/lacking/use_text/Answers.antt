@@ -1,14 +1,11 @@
-use Rattle.sides.proofs.Refines.LackingPlaces.{using_none, using_one, using_done}
+use mathlib.Core.Path.{◌≡◌}
+use native.Mathlib.Omega.{arith}
+use lib.ListN.{replicate}
+use borrow.Author.Rules.{rules}
+use Rattle.sides.proofs.Refines.LackingPlaces.{used-filled}
 use Rattle.sides.proofs.lacking.use_text.Goals as goal
-
-pub loop-j-init : goal.loop-j-init
-loop-j-init c =
-    using_none _ _ _
-
-pub loop-j-preserved : goal.loop-j-preserved
-loop-j-preserved c =
-    using_one _ _ _ _ _ c.loop-j.invariant c.loop-j-test.true
 
 pub returns : goal.returns
 returns c =
-    using_done _ _ _ _ _ c.loop-j.invariant c.loop-j-test.false
+    let e : c.fill.new.self ≡ replicate c.args.n 1 = search rules in
+    used-filled c.args.table.now c.args.p c.args.n _ (omega arith) e

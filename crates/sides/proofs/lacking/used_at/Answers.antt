@@ -1,10 +1,11 @@
-use Rattle.sides.proofs.Refines.LackingPlaces.{used-none, used-is}
+use borrow.Author.Rules.{rules}
+use Rattle.sides.specs.Working.Lacking.{used_at}
 use Rattle.sides.proofs.lacking.used_at.Goals as goal
 
-pub returns-then-table-i-eq0 : goal.returns-then-table-i-eq0
-returns-then-table-i-eq0 c =
-    used-none _ _ _ _ c.if-table-i-eq0.true
+pub returns-then-table-i-ne0 : goal.returns-then-table-i-ne0
+unfolding used_at
+returns-then-table-i-ne0 c = search rules
 
-pub returns : goal.returns
-returns c =
-    used-is _ _ _ _ c.if-table-i-eq0.false
+pub returns-else-table-i-ne0 : goal.returns-else-table-i-ne0
+unfolding used_at
+returns-else-table-i-ne0 c = search rules

@@ -1,11 +1,8 @@
-use Rattle.sides.proofs.Refines.TileWalk.{count-variable, count-constant}
+use borrow.Author.Tests.{eqb-true}
+use mathlib.Core.Path.{refl, sym, ◌∙◌}
+use Rattle.sides.proofs.Refines.TileWalk.{count-constant}
 use Rattle.sides.proofs.letters.fill_count.Goals as goal
 
-pub returns-then-kind_of-ne1 : goal.returns-then-kind_of-ne1
-returns-then-kind_of-ne1 c =
-    count-variable c.args.terms.now c.args.c c.args.a _ c.kind_of.ensures c.if-kind_of-ne1.true _
-
-pub returns : goal.returns
-returns c =
-    count-constant c.args.terms.now c.args.c c.args.a _ c.kind_of.ensures c.if-kind_of-ne1.false c.args.m _ _
-    c.requires c.second.ensures c.wide.ensures
+pub returns-then-is_a : goal.returns-then-is_a
+returns-then-is_a c =
+    count-constant _ _ _ _ _ _ _ refl (eqb-true _ _ (sym c.is_a.ensures ∙ c.if-is_a.true)) c.requires c.second.ensures c.wide.ensures

@@ -1,21 +1,17 @@
 use Rattle.sides.proofs.Refines.SideLetters.{letters_none, counted-one}
-use Rattle.records.proofs.Loops.{summing_none, summing_all}
+use Rattle.records.proofs.Loops.{summing_all}
 use native.Mathlib.Omega.{arith}
 use Rattle.sides.proofs.letters.letters_length_unchecked.Goals as goal
 
-pub loop-i-init : goal.loop-i-init
-loop-i-init c =
-    summing_none _ _ _
-
 pub overflow_add-total : goal.overflow_add-total
 overflow_add-total c =
-    let z = counted-one _ _ _ _ _ _ c.requires.0 c.loop-i.invariant c.loop-i-test.true c.letter_count-total.ensures in
+    let z = counted-one _ _ _ _ _ _ c.requires.0 c.loop-a.invariant c.loop-a-test.true c.letter_count-total.ensures in
     let y = z.small in let x = z.within in let v = c.requires.1 in omega arith
 
-pub loop-i-preserved : goal.loop-i-preserved
-loop-i-preserved c =
-    counted-one _ _ _ _ _ _ c.requires.0 c.loop-i.invariant c.loop-i-test.true c.letter_count-total.ensures
+pub loop-a-preserved : goal.loop-a-preserved
+loop-a-preserved c =
+    counted-one _ _ _ _ _ _ c.requires.0 c.loop-a.invariant c.loop-a-test.true c.letter_count-total.ensures
 
 pub returns : goal.returns
 returns c =
-    summing_all _ _ _ _ _ c.loop-i.invariant (letters_none _) c.loop-i-test.false
+    summing_all _ _ _ _ _ c.loop-a.invariant (letters_none _) c.loop-a-test.false

@@ -1,14 +1,15 @@
-use Rattle.sides.proofs.Refines.SideLetters.{pick_first, pick_second, pick_none}
+use borrow.Author.Rules.{rules}
+use Rattle.sides.specs.Working.Sides.{picked}
 use Rattle.sides.proofs.letters.pick.Goals as goal
 
-pub returns-then-which-eq1 : goal.returns-then-which-eq1
-returns-then-which-eq1 c =
-    pick_first _ _ _ c.if-which-eq1.true
+pub returns-in-1 : goal.returns-in-1
+unfolding picked
+returns-in-1 c = search rules
 
-pub returns-then-which-eq2 : goal.returns-then-which-eq2
-returns-then-which-eq2 c =
-    pick_second _ _ _ c.if-which-eq1.false c.if-which-eq2.true
+pub returns-in-2 : goal.returns-in-2
+unfolding picked
+returns-in-2 c = search rules
 
-pub returns : goal.returns
-returns c =
-    pick_none _ _ _ c.if-which-eq1.false c.if-which-eq2.false
+pub returns-in_default : goal.returns-in_default
+unfolding picked
+returns-in_default c = search rules

@@ -1,13 +1,5 @@
-use Rattle.sides.proofs.Refines.SideWalk.{onward-none, onward-here, onward-atom, onward-end}
+use Rattle.sides.proofs.Refines.SideWalk.{onward-atom, onward-end}
 use Rattle.sides.proofs.letters.settle.Goals as goal
-
-pub loop-i-init : goal.loop-i-init
-loop-i-init c =
-    onward-none _ _ _ _ _
-
-pub returns-then-j-n : goal.returns-then-j-n
-returns-then-j-n c =
-    onward-here _ _ _ _ _ _ c.loop-i.invariant _ c.letter_count-n.ensures c.if-j-n.true
 
 pub loop-i-preserved : goal.loop-i-preserved
 loop-i-preserved c =

@@ -1,11 +1,11 @@
-use mathlib.Core.Path.{refl}
-use Rattle.sides.proofs.Refines.SideLetters.{short-not, short-is}
+use borrow.Author.Rules.{rules}
+use Rattle.sides.specs.Wordeq.{short}
 use Rattle.sides.proofs.letters.short.Goals as goal
 
-pub returns-then-not-is_fixed : goal.returns-then-not-is_fixed
-returns-then-not-is_fixed c =
-    short-not _ _ _ _ c.is_fixed.ensures c.if-not-is_fixed.true-raw
+pub returns-then-is_fixed : goal.returns-then-is_fixed
+unfolding short
+returns-then-is_fixed c = search rules
 
-pub returns : goal.returns
-returns c =
-    short-is _ _ _ _ c.is_fixed.ensures c.if-not-is_fixed.false-raw _ _ c.letters_length_unchecked.ensures c.letters_length_unchecked-2.ensures _ refl
+pub returns-else-is_fixed : goal.returns-else-is_fixed
+unfolding short
+returns-else-is_fixed c = search rules

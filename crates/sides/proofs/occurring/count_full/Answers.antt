@@ -1,25 +1,16 @@
-use Rattle.sides.proofs.Refines.Elsewhere.{fulls_none, fulls_turn}
-use Rattle.records.proofs.Loops.{summing_none, summing_all}
-use native.Mathlib.Omega.{arith}
+use mathlib.Core.Path.{ap, ◌∙◌}
+use lib.ListN.{length}
+use borrow.Author.Rules.{rules}
+use Rattle.std.proofs.Common.{tests}
+use Rattle.std.proofs.lemmas.Iterator.{YieldsList-from_slice}
+use Rattle.std.proofs.lemmas.Iterator.Consumers.{count_from_yields_List, YieldsList-from_filter}
+use Rattle.records.specs.View.{termed}
+use Rattle.sides.specs.Wordeq.{is_full}
+use Rattle.sides.proofs.Kept.{filter-keep}
 use Rattle.sides.proofs.occurring.count_full.Goals as goal
-
-pub loop-i-init : goal.loop-i-init
-loop-i-init c =
-    summing_none _ _ _
-
-pub own_count-n-requires : goal.own_count-n-requires
-own_count-n-requires c =
-    c.requires.0
-
-pub overflow_add-n : goal.overflow_add-n
-overflow_add-n c =
-    let z = fulls_turn _ _ _ _ _ c.loop-i.invariant c.loop-i-test.true c.own_count-n.ensures in
-    let y = z.small in let x = z.within in let v = c.requires.1 in omega arith
-
-pub loop-i-preserved : goal.loop-i-preserved
-loop-i-preserved c =
-    fulls_turn _ _ _ _ _ c.loop-i.invariant c.loop-i-test.true c.own_count-n.ensures
 
 pub returns : goal.returns
 returns c =
-    summing_all _ _ _ _ _ c.loop-i.invariant (fulls_none _) c.loop-i-test.false
+    count_from_yields_List c.filter.result _ c.count.ensures.ran
+    (YieldsList-from_filter _ (is_full (termed c.args.terms.now c.args.c)) (YieldsList-from_slice c.args.l.now cc) c.filter.ensures.closure (λ x r q k. search (rules, tests)))
+    ∙ ap length (filter-keep (is_full (termed c.args.terms.now c.args.c)) c.args.l.now)

@@ -1,22 +1,18 @@
+use mathlib.Core.Path.{ap, ◌∙◌}
+use mathlib.Core.Bool.{not}
+use Prim.Native.Nat.{ℕ}
+use lib.ListN.{length}
+use borrow.Author.Rules.{rules}
+use Rattle.std.proofs.Common.{tests}
+use Rattle.std.proofs.lemmas.Iterator.{YieldsList-from_slice}
+use Rattle.std.proofs.lemmas.Iterator.Consumers.{count_from_yields_List, YieldsList-from_filter}
 use Rattle.records.specs.View.{termed}
-use Rattle.sides.proofs.Refines.Fitting.{tally_none, tallied_one}
-use Rattle.records.proofs.Loops.{summing_none, summing_all}
-use native.Mathlib.Omega.{arith}
+use Rattle.records.specs.Store.{is_constant}
+use Rattle.sides.proofs.Kept.{filter-keep}
 use Rattle.sides.proofs.spans.variables_length.Goals as goal
-
-pub loop-i-init : goal.loop-i-init
-loop-i-init c =
-    summing_none _ _ _
-
-pub overflow_add-total : goal.overflow_add-total
-overflow_add-total c =
-    let z = tallied_one (termed c.args.terms.now c.args.c) _ _ _ _ c.loop-i.invariant c.loop-i-test.true c.variable_count-total.ensures in
-    let y = z.small in let x = z.within in omega (arith, c.well_formed)
-
-pub loop-i-preserved : goal.loop-i-preserved
-loop-i-preserved c =
-    tallied_one (termed c.args.terms.now c.args.c) _ _ _ _ c.loop-i.invariant c.loop-i-test.true c.variable_count-total.ensures
 
 pub returns : goal.returns
 returns c =
-    summing_all _ _ _ _ _ c.loop-i.invariant (tally_none (termed c.args.terms.now c.args.c)) c.loop-i-test.false
+    count_from_yields_List c.filter.result _ c.count.ensures.ran
+    (YieldsList-from_filter _ (λ (a : ℕ). not (is_constant (termed c.args.terms.now c.args.c) a)) (YieldsList-from_slice c.args.l.now cc) c.filter.ensures.closure (λ x r q k. search (rules, tests)))
+    ∙ ap length (filter-keep (λ (a : ℕ). not (is_constant (termed c.args.terms.now c.args.c) a)) c.args.l.now)

@@ -5,6 +5,6 @@ pub returns-then-tail : goal.returns-then-tail
 returns-then-tail c =
     read-last c.args.tail c.args.l.now c.args.i c.if-tail.true c.requires
 
-pub returns : goal.returns
-returns c =
+pub returns-else-tail : goal.returns-else-tail
+returns-else-tail c =
     read_first c.args.tail c.args.l.now c.args.i c.if-tail.false

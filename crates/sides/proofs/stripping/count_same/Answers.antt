@@ -1,40 +1,27 @@
 use Rattle.records.specs.View.{read_in}
 use Rattle.sides.proofs.Refines.Pairs.{pair_at_lem}
-use Rattle.sides.proofs.Refines.Stripping.{counted_none, count_all, count_stop, count_turn, below_left, below_right}
-use native.Mathlib.Omega.{arith}
+use Rattle.sides.proofs.Refines.Stripping.{count_all, count_stop, count_turn, below_left, below_right}
 use Rattle.sides.proofs.stripping.count_same.Goals as goal
 
-pub loop-i-init : goal.loop-i-init
-loop-i-init c = (
-  omega arith,
-  counted_none (read_in c.args.terms.now c.args.chars.now c.args.c) c.args.lhs.now c.args.rhs.now
-      c.args.tail,
-)
-
-pub same_unchecked-requires : goal.same_unchecked-requires
-same_unchecked-requires c =
-    record {
-      fact_1 = c.requires.readable;
-      fact_2 = pair_at_lem (read_in c.args.terms.now c.args.chars.now c.args.c) c.args.tail c.args.lhs.now
-          c.args.rhs.now c.requires.lhs_value c.requires.rhs_value (below_left _ _ _ _ c.shorter-n.ensures c.loop-i-test.true)
-          (below_right _ _ _ _ c.shorter-n.ensures c.loop-i-test.true) c.atom_unchecked-x.ensures c.atom_unchecked-y.ensures;
-    }
+pub same_unchecked-requires-clause-fact_2 : goal.same_unchecked-requires-clause-fact_2
+same_unchecked-requires-clause-fact_2 c =
+    pair_at_lem (read_in c.args.terms.now c.args.chars.now c.args.c) c.args.tail c.args.lhs.now
+    c.args.rhs.now c.requires.lhs_strings c.requires.rhs_strings (below_left _ _ _ _ c.min-n.ensures c.loop-i-test.true)
+    (below_right _ _ _ _ c.min-n.ensures c.loop-i-test.true) c.atom_unchecked-x.ensures c.atom_unchecked-y.ensures
 
 pub returns-then-not-same_unchecked : goal.returns-then-not-same_unchecked
 returns-then-not-same_unchecked c =
     count_stop (read_in c.args.terms.now c.args.chars.now c.args.c) c.args.lhs.now c.args.rhs.now
-    c.args.tail _ c.shorter-n.ensures c.loop-i.invariant.1 c.loop-i-test.true c.atom_unchecked-x.ensures
+    c.args.tail _ c.min-n.ensures c.loop-i.invariant c.loop-i-test.true c.atom_unchecked-x.ensures
     c.atom_unchecked-y.ensures _ c.same_unchecked.ensures c.if-not-same_unchecked.true-raw
 
 pub loop-i-preserved : goal.loop-i-preserved
-loop-i-preserved c = (
-  let p = c.loop-i-test.true in omega arith,
-  count_turn (read_in c.args.terms.now c.args.chars.now c.args.c) c.args.lhs.now c.args.rhs.now
-      c.args.tail _ c.shorter-n.ensures c.loop-i.invariant.1 c.loop-i-test.true c.atom_unchecked-x.ensures
-      c.atom_unchecked-y.ensures _ c.same_unchecked.ensures c.if-not-same_unchecked.false-raw,
-)
+loop-i-preserved c =
+    count_turn (read_in c.args.terms.now c.args.chars.now c.args.c) c.args.lhs.now c.args.rhs.now
+    c.args.tail _ c.min-n.ensures c.loop-i.invariant c.loop-i-test.true c.atom_unchecked-x.ensures
+    c.atom_unchecked-y.ensures _ c.same_unchecked.ensures c.if-not-same_unchecked.false-raw
 
 pub returns : goal.returns
 returns c =
     count_all (read_in c.args.terms.now c.args.chars.now c.args.c) c.args.lhs.now c.args.rhs.now
-    c.args.tail _ c.shorter-n.ensures c.loop-i.invariant.1 c.loop-i-test.false
+    c.args.tail _ c.min-n.ensures c.loop-i.invariant c.loop-i-test.false

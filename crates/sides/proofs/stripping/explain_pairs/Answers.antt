@@ -1,58 +1,32 @@
-use mathlib.Core.Path.{refl}
 use Rattle.sides.proofs.Refines.Pairs.{pairing_none, pairing_end, pairing_pair, pairing_refused, pairing_turn}
-use native.Mathlib.Omega.{arith}
-use borrow.Author.Rules.{rules}
+use Rattle.records.proofs.Public.{handed}
 use Rattle.sides.proofs.stripping.explain_pairs.Goals as goal
 
 pub loop-i-init : goal.loop-i-init
-loop-i-init c = (
-  omega arith,
-  (
-    refl,
+loop-i-init c =
     pairing_none c.args.terms.now c.args.cells.now c.args.chars.now c.args.keys.now c.args.lhs.now
-        c.args.rhs.now c.args.tail c.requires.ready,
-  ),
-  refl,
-)
+    c.args.rhs.now c.args.tail c.requires.ready
 
-pub explain_pair-requires : goal.explain_pair-requires
-explain_pair-requires c =
-    record {
-      fact_1 = c.loop-i.invariant.1.1.going.ready;
-      fact_2 = pairing_pair c.args.terms.now c.args.cells.now c.args.chars.now c.args.keys.now c.args.lhs.now
-          c.args.rhs.now c.args.tail c.loop-i.invariant.1.1 c.requires.lhs_len c.requires.lhs_value c.requires.rhs_value
-          c.loop-i-test.true c.atom_unchecked-a.ensures c.atom_unchecked-b.ensures;
-    }
+pub explain_pair-requires-clause-pair : goal.explain_pair-requires-clause-pair
+explain_pair-requires-clause-pair c =
+    pairing_pair c.args.terms.now c.args.cells.now c.args.chars.now c.args.keys.now c.args.lhs.now
+    c.args.rhs.now c.args.tail c.loop-i.invariant c.requires.one_length c.requires.lhs_strings c.requires.rhs_strings
+    c.loop-i-test.true c.atom_unchecked-a.ensures c.atom_unchecked-b.ensures
 
-pub returns-in-Refused : goal.returns-in-Refused
-returns-in-Refused c =
-    pairing_refused c.args.terms.now c.args.cells.now c.args.chars.now c.args.keys.now c.args.lhs.now
-    c.args.rhs.now c.args.tail c.loop-i.invariant.1.1 c.requires.lhs_len c.requires.lhs_value c.requires.rhs_value
-    c.loop-i-test.true c.atom_unchecked-a.ensures c.atom_unchecked-b.ensures _ _ c.explain_pair.ensures _
-    c.in-Refused.is
-
-pub overflow_add-i : goal.overflow_add-i
-overflow_add-i c =
-    search (rules, c.loop-i-test.true, c.well_formed)
-
-pub loop-i-smaller : goal.loop-i-smaller
-loop-i-smaller c =
-    let p = c.loop-i-test.true in omega arith
+pub returns-in_err-d : goal.returns-in_err-d
+returns-in_err-d c =
+    rw (handed _ c.from_residual.ensures.1)
+    (pairing_refused c.args.terms.now c.args.cells.now c.args.chars.now c.args.keys.now c.args.lhs.now
+    c.args.rhs.now c.args.tail c.loop-i.invariant c.requires.one_length c.requires.lhs_strings c.requires.rhs_strings
+    c.loop-i-test.true c.atom_unchecked-a.ensures c.atom_unchecked-b.ensures _ _ c.in_err-d.ensures)
 
 pub loop-i-preserved : goal.loop-i-preserved
-loop-i-preserved c = (
-  let p = c.loop-i-test.true in omega arith,
-  (
-    search rules,
+loop-i-preserved c =
     pairing_turn c.args.terms.now c.args.cells.now c.args.chars.now c.args.keys.now c.args.lhs.now
-        c.args.rhs.now c.args.tail c.loop-i.invariant.1.1 c.requires.lhs_len c.requires.lhs_value c.requires.rhs_value
-        c.loop-i-test.true c.atom_unchecked-a.ensures c.atom_unchecked-b.ensures _ _
-        c.explain_pair.ensures _ c.in-Counts.is,
-  ),
-  search rules,
-)
+    c.args.rhs.now c.args.tail c.loop-i.invariant c.requires.one_length c.requires.lhs_strings c.requires.rhs_strings
+    c.loop-i-test.true c.atom_unchecked-a.ensures c.atom_unchecked-b.ensures _ _ c.in_ok-d.ensures
 
 pub returns : goal.returns
 returns c =
     pairing_end c.args.terms.now c.args.cells.now c.args.chars.now c.args.keys.now c.args.lhs.now
-    c.args.rhs.now c.args.tail c.loop-i.invariant.1.1 c.loop-i-test.false
+    c.args.rhs.now c.args.tail c.loop-i.invariant c.loop-i-test.false

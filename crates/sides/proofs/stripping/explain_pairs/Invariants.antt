@@ -1,11 +1,5 @@
-use mathlib.Core.Path.{◌≡◌}
-use Prim.Native.Nat.{◌-◌, ◌≤◌}
-use lib.ListN.{length}
 use Rattle.sides.proofs.Refines.Pairs.{Pairing}
 use Rattle.sides.proofs.stripping.explain_pairs.Given as goal
 
 abbrev pub invariant-loop-i : goal.invariant-loop-i
-invariant-loop-i l = (l.i ≤ length l.lhs) × ((length l.reasons ≡ length l.initial.reasons) × Pairing l.terms l.cells l.chars l.keys l.lhs l.rhs l.tail l.initial.d l.initial.reasons l.d l.reasons l.i) × (length l.places ≡ length l.initial.places)
-
-abbrev pub decreases-loop-i : goal.decreases-loop-i
-decreases-loop-i l = length l.lhs - l.i
+invariant-loop-i l = Pairing l.terms l.cells l.chars l.keys l.lhs l.rhs l.tail l.initial.d l.initial.reasons l.d l.reasons l.i

@@ -1,76 +1,42 @@
-use Rattle.sides.specs.Working.Stripping.{part}
+use mathlib.Core.Bool.{true}
 use lib.ListN.{length}
-use mathlib.Core.Bool.{true, false}
-use Rattle.sides.proofs.Refines.Stripping.{both-refused, heads-going, both-explained, part-strings, through-length, heads_through, tails_through}
+use Rattle.sides.specs.Working.Stripping.{part}
+use Rattle.records.proofs.Public.{handed}
+use Rattle.records.proofs.Lists.{all_take}
+use Rattle.sides.proofs.Refines.Stripping.{both-refused, heads-going, both-explained, through-length, tails_through, part-strings}
 use Rattle.sides.proofs.Refines.AddingReasons.{going_strings}
-use Rattle.records.specs.View.{read_in}
-use Rattle.records.specs.Store.{is_string}
-use native.Mathlib.Omega.{arith}
-use borrow.Author.Rules.{rules}
 use Rattle.sides.proofs.stripping.explain_stripped.Goals as goal
 
-pub explain_pairs-requires : goal.explain_pairs-requires
-explain_pairs-requires c =
-    record {
-      ready = c.requires.ready;
-      lhs_value = part-strings (is_string (read_in c.args.terms.now c.args.chars.now c.args.c)) c.args.lhs.now 0 c.args.rest.from
-          c.requires.lhs_value;
-      rhs_value = part-strings (is_string (read_in c.args.terms.now c.args.chars.now c.args.c)) c.args.rhs.now 0
-          c.args.rest.from c.requires.rhs_value;
-      lhs_len = through-length false (part c.args.lhs.now 0 c.args.rest.from) (part c.args.rhs.now 0 c.args.rest.from)
-          (heads_through c.args.lhs.now c.args.rhs.now c.args.rest c.requires.finds);
-    }
+pub explain_pairs-requires-clause-lhs_strings : goal.explain_pairs-requires-clause-lhs_strings
+explain_pairs-requires-clause-lhs_strings c =
+    all_take _ c.args.rest.from c.args.lhs.now c.requires.lhs_strings
 
-pub offset_bounds-lhs-x : goal.offset_bounds-lhs-x
-offset_bounds-lhs-x c =
-    search (rules, c.requires.finds.inside.1, c.well_formed)
+pub explain_pairs-requires-clause-rhs_strings : goal.explain_pairs-requires-clause-rhs_strings
+explain_pairs-requires-clause-rhs_strings c =
+    all_take _ c.args.rest.from c.args.rhs.now c.requires.rhs_strings
 
-pub slice_bounds-l-count-in-Counts : goal.slice_bounds-l-count-in-Counts
-slice_bounds-l-count-in-Counts c =
-    let p = c.requires.finds.inside.1 in omega arith
-
-pub slice_bounds-l-start-in-Counts : goal.slice_bounds-l-start-in-Counts
-slice_bounds-l-start-in-Counts c =
-    let p = c.requires.finds.inside.1 in omega arith
-
-pub offset_bounds-rhs-y : goal.offset_bounds-rhs-y
-offset_bounds-rhs-y c =
-    search (rules, c.requires.finds.inside.3, c.well_formed)
-
-pub slice_bounds-r-count-in-Counts : goal.slice_bounds-r-count-in-Counts
-slice_bounds-r-count-in-Counts c =
-    let p = c.requires.finds.inside.3 in omega arith
-
-pub slice_bounds-r-start-in-Counts : goal.slice_bounds-r-start-in-Counts
-slice_bounds-r-start-in-Counts c =
-    let p = c.requires.finds.inside.3 in omega arith
-
-pub explain_pairs-requires-in-Counts : goal.explain_pairs-requires-in-Counts
-explain_pairs-requires-in-Counts c =
-    let by-isString = is_string (read_in c.args.terms.now c.args.chars.now c.args.c) in
-    let by_length = length c.args.lhs.now in
-    let by-length-2 = length c.args.rhs.now in
+pub explain_pairs-requires-2 : goal.explain_pairs-requires-2
+explain_pairs-requires-2 c =
     let going = heads-going c.args.terms.now c.args.cells.now c.args.chars.now c.args.keys.now c.args.lhs.now
-    c.args.rhs.now c.args.rest c.requires.finds c.requires.ready c.requires.lhs_value c.requires.rhs_value _
-    c.explain_pairs.ensures _ c.in-Counts.is in
+    c.args.rhs.now c.args.rest c.requires.finds c.requires.ready c.requires.lhs_strings c.requires.rhs_strings _ _
+    c.in_ok-d.ensures in
     record {
       ready = going.ready;
-      lhs_value = going_strings c.args.terms.now c.args.cells.now c.args.chars.now c.args.keys.now going _
-          (part-strings by-isString c.args.lhs.now c.args.rest.lhs by_length c.requires.lhs_value);
-      rhs_value = going_strings c.args.terms.now c.args.cells.now c.args.chars.now c.args.keys.now going _
-          (part-strings by-isString c.args.rhs.now c.args.rest.rhs by-length-2 c.requires.rhs_value);
-      lhs_len = through-length true (part c.args.lhs.now c.args.rest.lhs by_length) (part c.args.rhs.now c.args.rest.rhs by-length-2)
+      lhs_strings = going_strings c.args.terms.now c.args.cells.now c.args.chars.now c.args.keys.now going _
+          (part-strings _ c.args.lhs.now c.args.rest.lhs c.requires.lhs_strings);
+      rhs_strings = going_strings c.args.terms.now c.args.cells.now c.args.chars.now c.args.keys.now going _
+          (part-strings _ c.args.rhs.now c.args.rest.rhs c.requires.rhs_strings);
+      one_length = through-length true (part c.args.lhs.now c.args.rest.lhs (length c.args.lhs.now)) (part c.args.rhs.now c.args.rest.rhs (length c.args.rhs.now))
           (tails_through c.args.lhs.now c.args.rhs.now c.args.rest c.requires.finds);
     }
 
-pub returns-in-Counts : goal.returns-in-Counts
-returns-in-Counts c =
-    both-explained c.args.terms.now c.args.cells.now c.args.chars.now c.args.keys.now c.args.lhs.now
-    c.args.rhs.now c.args.rest c.requires.finds c.requires.ready c.requires.lhs_value c.requires.rhs_value _
-    c.explain_pairs.ensures _ c.in-Counts.is _ c.explain_pairs-in-Counts.result c.explain_pairs-in-Counts.ensures
+pub returns-in_err-d : goal.returns-in_err-d
+returns-in_err-d c =
+    rw (handed _ c.from_residual.ensures.1)
+    (both-refused c.args.terms.now c.args.cells.now c.args.chars.now c.args.keys.now c.args.lhs.now
+    c.args.rhs.now c.args.rest c.requires.finds c.requires.ready c.requires.lhs_strings c.requires.rhs_strings _ _ c.in_err-d.ensures)
 
-pub returns-in-Refused : goal.returns-in-Refused
-returns-in-Refused c =
-    both-refused c.args.terms.now c.args.cells.now c.args.chars.now c.args.keys.now c.args.lhs.now
-    c.args.rhs.now c.args.rest c.requires.finds c.requires.ready c.requires.lhs_value c.requires.rhs_value _
-    c.explain_pairs.ensures _ c.in-Refused.is
+pub returns : goal.returns
+returns c =
+    both-explained c.args.terms.now c.args.cells.now c.args.chars.now c.args.keys.now c.args.lhs.now
+    c.args.rhs.now c.args.rest c.requires.finds c.requires.ready c.requires.lhs_strings c.requires.rhs_strings _ _ c.in_ok-d.ensures _ c.explain_pairs-2.result c.explain_pairs-2.ensures

@@ -1,6 +1,3 @@
-use mathlib.Core.Path.{◌≡◌}
-use Prim.Native.Nat.{◌-◌, ◌≤◌}
-use lib.ListN.{length}
 use Rattle.records.specs.View.{lent, read_in}
 use Rattle.sides.specs.Wordeq.{same_heads}
 use Rattle.sides.specs.Working.Stripping.{way}
@@ -8,7 +5,4 @@ use Rattle.sides.proofs.Refines.Stripping.{Needing}
 use Rattle.sides.proofs.stripping.pairs_need.Given as goal
 
 abbrev pub invariant-loop-i : goal.invariant-loop-i
-invariant-loop-i l = (l.i ≤ length l.lhs) × Needing (lent l.terms l.cells l.chars l.reasons l.keys) l.c (same_heads (read_in l.terms l.chars l.c) (way l.tail l.lhs) (way l.tail l.rhs)) l.i × (length l.places ≡ length l.initial.places)
-
-abbrev pub decreases-loop-i : goal.decreases-loop-i
-decreases-loop-i l = length l.lhs - l.i
+invariant-loop-i l = Needing (lent l.terms l.cells l.chars l.reasons l.keys) l.c (same_heads (read_in l.terms l.chars l.c) (way l.tail l.lhs) (way l.tail l.rhs)) l.i

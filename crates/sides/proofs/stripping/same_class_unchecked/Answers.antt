@@ -1,4 +1,4 @@
-use Rattle.sides.proofs.Refines.Alike.{string-within, roots-closed, classes-compared}
+use Rattle.sides.proofs.Refines.Alike.{string-within, roots-closed}
 use Rattle.sides.proofs.stripping.same_class_unchecked.Goals as goal
 
 pub root_unchecked-x-requires : goal.root_unchecked-x-requires
@@ -8,7 +8,3 @@ root_unchecked-x-requires c =
 pub root_unchecked-y-requires : goal.root_unchecked-y-requires
 root_unchecked-y-requires c =
     (string-within c.requires.fact_1 _ c.requires.fact_2.other, roots-closed c.requires.fact_1)
-
-pub returns : goal.returns
-returns c =
-    classes-compared c.requires.fact_1 _ _ _ _ c.root_unchecked-x.ensures c.root_unchecked-y.ensures

@@ -1,8 +1,6 @@
-use Rattle.wordeq.proofs.Refines.Choices.{aliased-lengths, emptied-bare, assigned-length, assigned-both, choice_alias, choice_left, choice_right, choice_first, choice_last, choice_none}
-use Rattle.records.proofs.ListLaws.{list-short}
+use Rattle.wordeq.proofs.Refines.Choices.{choice_alias, choice_left, choice_right, choice_first, choice_last, choice_none}
 use Rattle.sides.proofs.SideReady.{ready-read_in}
-use Rattle.records.specs.View.{lent, store_of, read_in, termed}
-use native.Mathlib.Omega.{arith}
+use Rattle.records.specs.View.{lent}
 use Rattle.wordeq.proofs.propagate.propagate_unchecked.Goals as goal
 
 pub is_alias-requires : goal.is_alias-requires
@@ -10,31 +8,11 @@ is_alias-requires c =
     ready-read_in (lent c.args.terms.now c.args.cells.now c.args.chars.now c.args.reasons.now c.args.keys.now)
     c.args.c c.requires.ready
 
-pub bounds-lhs-0 : goal.bounds-lhs-0
-bounds-lhs-0 c =
-    (let n = (aliased-lengths (read_in c.args.terms.now c.args.chars.now c.args.c) c.args.lhs.now c.args.rhs.now _
-    c.if-is_alias.true c.is_alias.ensures).0 in
-    omega arith)
-
-pub bounds-rhs-0 : goal.bounds-rhs-0
-bounds-rhs-0 c =
-    (let n = (aliased-lengths (read_in c.args.terms.now c.args.chars.now c.args.c) c.args.lhs.now c.args.rhs.now _
-    c.if-is_alias.true c.is_alias.ensures).1 in
-    omega arith)
-
 pub returns-then-is_alias : goal.returns-then-is_alias
 returns-then-is_alias c =
     choice_alias (lent c.args.terms.now c.args.cells.now c.args.chars.now c.args.reasons.now c.args.keys.now)
     c.args.c c.args.lhs.now c.args.rhs.now _ c.is_alias.ensures c.requires.ready
     c.if-is_alias.true
-
-pub empties_unchecked-requires : goal.empties_unchecked-requires
-empties_unchecked-requires c =
-    record {
-      ready = c.requires.ready;
-      side_value = emptied-bare (termed c.args.terms.now c.args.c) c.args.lhs.now c.args.rhs.now _ c.if-is_emptied_unchecked.true
-          c.is_emptied_unchecked.ensures;
-    }
 
 pub returns-then-is_emptied_unchecked : goal.returns-then-is_emptied_unchecked
 returns-then-is_emptied_unchecked c =
@@ -42,73 +20,29 @@ returns-then-is_emptied_unchecked c =
     c.args.c c.args.lhs.now c.args.rhs.now _ c.is_alias.ensures c.if-is_alias.false _ c.is_emptied_unchecked.ensures
     c.if-is_emptied_unchecked.true c.empties_unchecked.ensures
 
-pub empties_unchecked-requires-then-is_emptied_unchecked-2 : goal.empties_unchecked-requires-then-is_emptied_unchecked-2
-empties_unchecked-requires-then-is_emptied_unchecked-2 c =
-    record {
-      ready = c.requires.ready;
-      side_value = emptied-bare (termed c.args.terms.now c.args.c) c.args.rhs.now c.args.lhs.now _ c.if-is_emptied_unchecked-2.true
-          c.is_emptied_unchecked-2.ensures;
-    }
-
 pub returns-then-is_emptied_unchecked-2 : goal.returns-then-is_emptied_unchecked-2
 returns-then-is_emptied_unchecked-2 c =
     choice_right (lent c.args.terms.now c.args.cells.now c.args.chars.now c.args.reasons.now c.args.keys.now)
     c.args.c c.args.lhs.now c.args.rhs.now _ c.is_alias.ensures c.if-is_alias.false _ c.is_emptied_unchecked.ensures
-    c.if-is_emptied_unchecked.false _ c.is_emptied_unchecked-2.ensures c.if-is_emptied_unchecked-2.true c.empties_unchecked-then-is_emptied_unchecked-2.ensures
-
-pub bounds-lhs-0-then-is_assigned : goal.bounds-lhs-0-then-is_assigned
-bounds-lhs-0-then-is_assigned c =
-    (let n = assigned-length (termed c.args.terms.now c.args.c) c.args.lhs.now c.args.rhs.now _ c.if-is_assigned.true
-    c.is_assigned.ensures in
-    omega arith)
-
-pub assigns_unchecked-requires : goal.assigns_unchecked-requires
-assigns_unchecked-requires c =
-    record {
-      ready = c.requires.ready;
-      side_len_bound = list-short
-          (store_of (lent c.args.terms.now c.args.cells.now c.args.chars.now c.args.reasons.now c.args.keys.now)
-          c.args.c)
-          c.args.rhs.now c.requires.both_lists.right;
-      side_value = assigned-both (termed c.args.terms.now c.args.c) c.args.lhs.now c.args.rhs.now _ c.if-is_assigned.true
-          c.is_assigned.ensures;
-    }
+    c.if-is_emptied_unchecked.false _ c.is_emptied_unchecked-else-is_emptied_unchecked.ensures c.if-is_emptied_unchecked-2.true c.empties_unchecked-then-is_emptied_unchecked-2.ensures
 
 pub returns-then-is_assigned : goal.returns-then-is_assigned
 returns-then-is_assigned c =
     choice_first (lent c.args.terms.now c.args.cells.now c.args.chars.now c.args.reasons.now c.args.keys.now)
     c.args.c c.args.lhs.now c.args.rhs.now _ c.is_alias.ensures c.if-is_alias.false _ c.is_emptied_unchecked.ensures
-    c.if-is_emptied_unchecked.false _ c.is_emptied_unchecked-2.ensures c.if-is_emptied_unchecked-2.false _ c.is_assigned.ensures c.if-is_assigned.true
+    c.if-is_emptied_unchecked.false _ c.is_emptied_unchecked-else-is_emptied_unchecked.ensures c.if-is_emptied_unchecked-2.false _ c.is_assigned.ensures c.if-is_assigned.true
     c.assigns_unchecked.ensures
-
-pub bounds-rhs-0-then-is_assigned-2 : goal.bounds-rhs-0-then-is_assigned-2
-bounds-rhs-0-then-is_assigned-2 c =
-    (let n = assigned-length (termed c.args.terms.now c.args.c) c.args.rhs.now c.args.lhs.now _ c.if-is_assigned-2.true
-    c.is_assigned-2.ensures in
-    omega arith)
-
-pub assigns_unchecked-requires-then-is_assigned-2 : goal.assigns_unchecked-requires-then-is_assigned-2
-assigns_unchecked-requires-then-is_assigned-2 c =
-    record {
-      ready = c.requires.ready;
-      side_len_bound = list-short
-          (store_of (lent c.args.terms.now c.args.cells.now c.args.chars.now c.args.reasons.now c.args.keys.now)
-          c.args.c)
-          c.args.lhs.now c.requires.both_lists.left;
-      side_value = assigned-both (termed c.args.terms.now c.args.c) c.args.rhs.now c.args.lhs.now _ c.if-is_assigned-2.true
-          c.is_assigned-2.ensures;
-    }
 
 pub returns-then-is_assigned-2 : goal.returns-then-is_assigned-2
 returns-then-is_assigned-2 c =
     choice_last (lent c.args.terms.now c.args.cells.now c.args.chars.now c.args.reasons.now c.args.keys.now)
     c.args.c c.args.lhs.now c.args.rhs.now _ c.is_alias.ensures c.if-is_alias.false _ c.is_emptied_unchecked.ensures
-    c.if-is_emptied_unchecked.false _ c.is_emptied_unchecked-2.ensures c.if-is_emptied_unchecked-2.false _ c.is_assigned.ensures c.if-is_assigned.false _
-    c.is_assigned-2.ensures c.if-is_assigned-2.true c.assigns_unchecked-then-is_assigned-2.ensures
+    c.if-is_emptied_unchecked.false _ c.is_emptied_unchecked-else-is_emptied_unchecked.ensures c.if-is_emptied_unchecked-2.false _ c.is_assigned.ensures c.if-is_assigned.false _
+    c.is_assigned-else-is_assigned.ensures c.if-is_assigned-2.true c.assigns_unchecked-then-is_assigned-2.ensures
 
-pub returns : goal.returns
-returns c =
+pub returns-else-is_assigned-2 : goal.returns-else-is_assigned-2
+returns-else-is_assigned-2 c =
     choice_none (lent c.args.terms.now c.args.cells.now c.args.chars.now c.args.reasons.now c.args.keys.now)
     c.args.c c.args.lhs.now c.args.rhs.now _ c.is_alias.ensures c.if-is_alias.false _ c.is_emptied_unchecked.ensures
-    c.if-is_emptied_unchecked.false _ c.is_emptied_unchecked-2.ensures c.if-is_emptied_unchecked-2.false _ c.is_assigned.ensures c.if-is_assigned.false _
-    c.is_assigned-2.ensures c.requires.ready c.if-is_assigned-2.false
+    c.if-is_emptied_unchecked.false _ c.is_emptied_unchecked-else-is_emptied_unchecked.ensures c.if-is_emptied_unchecked-2.false _ c.is_assigned.ensures c.if-is_assigned.false _
+    c.is_assigned-else-is_assigned.ensures c.requires.ready c.if-is_assigned-2.false

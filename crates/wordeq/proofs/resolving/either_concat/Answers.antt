@@ -7,7 +7,7 @@ returns-then-has_concat c =
     either_left (termed c.args.terms.now c.args.c) c.args.lhs.now c.args.rhs.now _ c.has_concat.ensures
     c.if-has_concat.true
 
-pub returns : goal.returns
-returns c =
+pub returns-else-has_concat : goal.returns-else-has_concat
+returns-else-has_concat c =
     either_right (termed c.args.terms.now c.args.c) c.args.lhs.now c.args.rhs.now _ c.has_concat.ensures
-    c.if-has_concat.false _ c.has_concat-2.ensures
+    c.if-has_concat.false _ c.has_concat-else-has_concat.ensures

@@ -1,17 +1,12 @@
-use Rattle.wordeq.proofs.Refines.ResolveCalls.{resolve-closed}
-use Rattle.wordeq.proofs.Refines.Flattening.{guard_passed}
+use Rattle.records.proofs.Public.{handed}
+use Rattle.wordeq.proofs.Refines.ResolveCalls.{resolve-closed, resolve-refused}
 use Rattle.wordeq.proofs.resolving.resolve_unchecked.Goals as goal
 
-pub run-requires : goal.run-requires
-run-requires c =
-    record {
-      ready = c.requires.ready;
-      both_lists = c.requires.both_lists;
-      guard_value = guard_passed _ c.ranges.guard c.requires.guard_value;
-      list_limit_in_bounds = c.requires.list_limit_in_bounds;
-    }
+pub returns-in_err-o : goal.returns-in_err-o
+returns-in_err-o c =
+    rw (handed _ c.from_residual.ensures.1) (resolve-refused _ _ c.args.lhs.now c.args.rhs.now c.args.guard c.ranges.guard c.in_err-o.ensures)
 
 pub returns : goal.returns
 returns c =
     resolve-closed _ _ c.args.lhs.now c.args.rhs.now c.args.guard c.requires.ready c.requires.both_lists c.ranges.guard _
-    c.run.result c.run.ensures _ c.close.ensures
+    c.in_ok-o.o c.in_ok-o.ensures _ c.close.ensures

@@ -1,19 +1,21 @@
+use Rattle.records.proofs.Public.{handed}
 use Rattle.wordeq.proofs.Refines.SplitAtoms.{named-stop, named_arguments, named_new, named-then}
 use Rattle.wordeq.proofs.splits.fresh_str_unchecked.Goals as goal
 
-pub returns-then-named-ne0 : goal.returns-then-named-ne0
-returns-then-named-ne0 c =
-    named-stop _ c.next_name_unchecked-named.ensures c.if-named-ne0.true
+pub returns-in_err-named : goal.returns-in_err-named
+returns-in_err-named c =
+    rw (handed _ c.from_residual.ensures.1) (named-stop c.in_err-named.ensures)
 
-pub make_named-requires : goal.make_named-requires
-make_named-requires c =
-    record {
-      ready = c.next_name_unchecked-named.ensures.ready;
-      len_bound = c.next_name_unchecked-named.ensures.fits;
-      c_value = named_arguments _ c.next_name_unchecked-named.ensures c.if-named-ne0.false;
-      c_value_2 = named_new _ c.next_name_unchecked-named.ensures c.if-named-ne0.false;
-    }
+pub make_named-requires-clause-is_name : goal.make_named-requires-clause-is_name
+make_named-requires-clause-is_name c =
+    let x = c.in_ok-named.ensures in
+    named_arguments x
+
+pub make_named-requires-clause-is_new : goal.make_named-requires-clause-is_new
+make_named-requires-clause-is_new c =
+    let x = c.in_ok-named.ensures in
+    named_new x
 
 pub returns : goal.returns
 returns c =
-    named-then _ c.next_name_unchecked-named.ensures c.if-named-ne0.false c.make_named.ensures
+    named-then c.in_ok-named.ensures c.make_named.ensures

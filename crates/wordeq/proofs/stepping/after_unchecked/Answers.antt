@@ -1,18 +1,30 @@
-use mathlib.Core.Path.{ap, ◌∙◌}
-use Rattle.sides.specs.Wordeq.{is_guard}
 use mir.Facts.{to_z-of_z}
-use Rattle.wordeq.proofs.Refines.Steps.{after_early, after-known, after_tiled, after-split}
+use Rattle.wordeq.proofs.Refines.Steps.{after-refused, after_early, after-refused_2, after-known, after-refused_3, after_tiled, after-split}
 use Rattle.sides.proofs.Trying.{passed_on, conflicts-rises, propagates-rises, tiles-rises, last_of}
+use Rattle.records.proofs.Public.{handed}
 use Rattle.wordeq.proofs.stepping.after_unchecked.Goals as goal
+
+pub returns-in_err-early : goal.returns-in_err-early
+returns-in_err-early c =
+    rw (handed _ c.from_residual.ensures.1) (after-refused c.args.lhs.now c.args.rhs.now c.args.guard c.args.needed c.in_err-early.ensures)
+
+pub returns-in_err-known : goal.returns-in_err-known
+returns-in_err-known c =
+    rw (handed _ c.from_residual-in_err-known.ensures.1) (after-refused_2 c.args.lhs.now c.args.rhs.now c.args.guard c.args.needed c.in_ok-early.ensures c.in-Done.is c.in_err-known.ensures)
+
+pub returns-in_err-tiled : goal.returns-in_err-tiled
+returns-in_err-tiled c =
+    rw (handed _ c.from_residual-in_err-tiled.ensures.1)
+    (after-refused_3 c.args.lhs.now c.args.rhs.now c.args.guard c.args.needed c.in_ok-early.ensures c.in-Done.is c.in_ok-known.ensures c.in-Done-known.is c.in_err-tiled.ensures)
 
 pub returns-in_default : goal.returns-in_default
 returns-in_default c =
-    after_early c.args.lhs.now c.args.rhs.now c.args.guard c.args.needed c.conflicts_unchecked-early.ensures
-    (last_of c.conflicts_unchecked-early.result c.in_default.not-Done) c.args.list.now
+    after_early c.args.lhs.now c.args.rhs.now c.args.guard c.args.needed c.in_ok-early.ensures
+    (last_of c.in_ok-early.early c.in_default.not-Done) c.args.list.now
 
-pub propagate_unchecked-known-requires : goal.propagate_unchecked-known-requires
-propagate_unchecked-known-requires c =
-    let x = passed_on (conflicts-rises c.args.lhs.now c.args.rhs.now) c.conflicts_unchecked-early.ensures c.in-Done.is c.requires.both_lists in
+pub propagate_unchecked-requires : goal.propagate_unchecked-requires
+propagate_unchecked-requires c =
+    let x = passed_on (conflicts-rises c.args.lhs.now c.args.rhs.now) c.in_ok-early.ensures c.in-Done.is c.requires.both_lists in
     record {
       ready = x.ready;
       both_lists = x.lists;
@@ -20,65 +32,38 @@ propagate_unchecked-known-requires c =
 
 pub returns-in_default-known : goal.returns-in_default-known
 returns-in_default-known c =
-    after-known c.args.lhs.now c.args.rhs.now c.args.guard c.args.needed c.conflicts_unchecked-early.ensures c.in-Done.is c.propagate_unchecked-known.ensures
-    (last_of c.propagate_unchecked-known.result c.in_default-known.not-Done) c.args.list.now
+    after-known c.args.lhs.now c.args.rhs.now c.args.guard c.args.needed c.in_ok-early.ensures c.in-Done.is c.in_ok-known.ensures
+    (last_of c.in_ok-known.known c.in_default-known.not-Done) c.args.list.now
 
-pub tile_unchecked-tiled-requires : goal.tile_unchecked-tiled-requires
-tile_unchecked-tiled-requires c =
-    let x = passed_on (conflicts-rises c.args.lhs.now c.args.rhs.now) c.conflicts_unchecked-early.ensures c.in-Done.is c.requires.both_lists in
-    let y = passed_on (propagates-rises c.args.lhs.now c.args.rhs.now) c.propagate_unchecked-known.ensures c.in-Done-known.is x.lists in
+pub tile_unchecked-requires : goal.tile_unchecked-requires
+tile_unchecked-requires c =
+    let x = passed_on (conflicts-rises c.args.lhs.now c.args.rhs.now) c.in_ok-early.ensures c.in-Done.is c.requires.both_lists in
+    let y = passed_on (propagates-rises c.args.lhs.now c.args.rhs.now) c.in_ok-known.ensures c.in-Done-known.is x.lists in
     record {
       ready = y.ready;
       both_lists = y.lists;
     }
 
-pub shape_of-reasons-in_default-tiled : goal.shape_of-reasons-in_default-tiled
-shape_of-reasons-in_default-tiled c =
-    c.tile_unchecked-tiled.auto.reasons ∙ c.conflicts_unchecked-early.auto.reasons
-
 pub returns-in_default-tiled : goal.returns-in_default-tiled
 returns-in_default-tiled c =
-    after_tiled c.args.lhs.now c.args.rhs.now c.args.guard c.args.needed c.conflicts_unchecked-early.ensures c.in-Done.is c.propagate_unchecked-known.ensures c.in-Done-known.is
-    c.tile_unchecked-tiled.ensures (last_of c.tile_unchecked-tiled.result c.in_default-tiled.not-Done) c.args.list.now
+    after_tiled c.args.lhs.now c.args.rhs.now c.args.guard c.args.needed c.in_ok-early.ensures c.in-Done.is c.in_ok-known.ensures c.in-Done-known.is
+    c.in_ok-tiled.ensures (last_of c.in_ok-tiled.tiled c.in_default-tiled.not-Done) c.args.list.now
 
-pub split_unchecked-requires : goal.split_unchecked-requires
-split_unchecked-requires c =
-    let x = passed_on (conflicts-rises c.args.lhs.now c.args.rhs.now) c.conflicts_unchecked-early.ensures c.in-Done.is c.requires.both_lists in
-    let y = passed_on (propagates-rises c.args.lhs.now c.args.rhs.now) c.propagate_unchecked-known.ensures c.in-Done-known.is x.lists in
-    let z = passed_on (tiles-rises c.args.lhs.now c.args.rhs.now) c.tile_unchecked-tiled.ensures c.in-Done-tiled.is y.lists in
-    record {
-      ready = z.ready;
-      both_lists = z.lists;
-      heads_apart = c.requires.heads_apart;
-      guard_value = ap is_guard (to_z-of_z c.ranges.guard) ∙ c.requires.guard_value;
-      list_limit_in_bounds = c.requires.list_limit_in_bounds;
-    }
+pub split_unchecked-requires-clause-ready : goal.split_unchecked-requires-clause-ready
+split_unchecked-requires-clause-ready c =
+    let x = passed_on (conflicts-rises c.args.lhs.now c.args.rhs.now) c.in_ok-early.ensures c.in-Done.is c.requires.both_lists in
+    let y = passed_on (propagates-rises c.args.lhs.now c.args.rhs.now) c.in_ok-known.ensures c.in-Done-known.is x.lists in
+    let z = passed_on (tiles-rises c.args.lhs.now c.args.rhs.now) c.in_ok-tiled.ensures c.in-Done-tiled.is y.lists in
+    z.ready
 
-pub shape_of-terms : goal.shape_of-terms
-shape_of-terms c =
-    c.split_unchecked.auto.terms ∙ c.propagate_unchecked-known.auto.terms
-
-pub shape_of-cells : goal.shape_of-cells
-shape_of-cells c =
-    c.split_unchecked.auto.cells
-
-pub shape_of-chars : goal.shape_of-chars
-shape_of-chars c =
-    c.split_unchecked.auto.chars ∙ c.propagate_unchecked-known.auto.chars
-
-pub shape_of-reasons : goal.shape_of-reasons
-shape_of-reasons c =
-    c.tile_unchecked-tiled.auto.reasons ∙ c.conflicts_unchecked-early.auto.reasons
-
-pub shape_of-keys : goal.shape_of-keys
-shape_of-keys c =
-    c.split_unchecked.auto.keys
-
-pub shape_of-list : goal.shape_of-list
-shape_of-list c =
-    c.split_unchecked.auto.list
+pub split_unchecked-requires-clause-both_lists : goal.split_unchecked-requires-clause-both_lists
+split_unchecked-requires-clause-both_lists c =
+    let x = passed_on (conflicts-rises c.args.lhs.now c.args.rhs.now) c.in_ok-early.ensures c.in-Done.is c.requires.both_lists in
+    let y = passed_on (propagates-rises c.args.lhs.now c.args.rhs.now) c.in_ok-known.ensures c.in-Done-known.is x.lists in
+    let z = passed_on (tiles-rises c.args.lhs.now c.args.rhs.now) c.in_ok-tiled.ensures c.in-Done-tiled.is y.lists in
+    z.lists
 
 pub returns : goal.returns
 returns c =
-    after-split c.args.lhs.now c.args.rhs.now c.args.guard c.args.needed c.conflicts_unchecked-early.ensures c.in-Done.is c.propagate_unchecked-known.ensures c.in-Done-known.is
-    c.tile_unchecked-tiled.ensures (to_z-of_z c.ranges.guard) c.in-Done-tiled.is c.split_unchecked.ensures
+    after-split c.args.lhs.now c.args.rhs.now c.args.guard c.args.needed c.in_ok-early.ensures c.in-Done.is c.in_ok-known.ensures c.in-Done-known.is
+    c.in_ok-tiled.ensures (to_z-of_z c.ranges.guard) c.in-Done-tiled.is c.split_unchecked.ensures

@@ -1,5 +1,0 @@
-use Rattle.std.proofs.Common.{◌-◌}
-use Rattle.answers.proofs.saying.say_made.Given as goal
-
-abbrev pub decreases-loop-t : goal.decreases-loop-t
-decreases-loop-t g l = l.n - l.t

@@ -1,7 +1,0 @@
-use mathlib.Core.Path.{sym}
-use lib.ListN.{get_or-eq_default}
-use Rattle.records.proofs.heights.kept.Goals as goal
-
-pub returns : goal.returns
-returns c =
-    sym (get_or-eq_default c.args.heights.now 0 c.if-i-heights.false)
