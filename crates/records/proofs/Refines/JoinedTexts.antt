@@ -51,8 +51,6 @@ summed_one l ts total i n s h e b = summing_turn (lengths l) 4294967295 ts total
 
 -- COPIED within the slice, from below the place
 
--- COPIED within the slice, from below the place
-
 module _ (l l' : List ℕ) (from n to i : ℕ) (a : Copied l l' to (span l from n) i) where
   pub moved-one : i < n → from + n ≤ to → to + n ≤ length l → Copied l (set l' (to + i) (get_or l' (from + i) 0)) to (span l from n) (i + 1)
   moved-one h b f =
