@@ -19,7 +19,7 @@ pub fn put_term(terms: &mut [u32], t: u32, kind: u32, first: u32, second: u32) {
 }
 
 // Of the parts in the chain from cell e on.
-pub fn put_concatenation(terms: &mut [u32], t: u32, e: u32) {
+pub(crate) fn put_concatenation(terms: &mut [u32], t: u32, e: u32) {
     put_term(terms, t, u32::from(Kind::Concatenation), e, 0);
 }
 

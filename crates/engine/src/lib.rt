@@ -283,10 +283,11 @@ fn explain_pair(
     requires { (c.terms ≤ 512) × Explainable terms.now cells.now reasons.old c.terms c.cells a b c.reasons }
     ensures { PairExplained terms cells (changing reasons) c a b result }
 {
-    if 32 <= c.terms {
-        if let Some(count) = explain_plain(terms, c, a, b, reasons, places)? {
-            return Ok(count);
-        }
+    if c.terms < 32 {
+        return explain_tabled(terms, cells, c, a, b, reasons);
+    }
+    if let Some(count) = explain_plain(terms, c, a, b, reasons, places)? {
+        return Ok(count);
     }
     explain_tabled(terms, cells, c, a, b, reasons)
 }

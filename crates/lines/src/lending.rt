@@ -1,5 +1,5 @@
 // The slices of a store as they are lent, and how much of a slice is.
-ghost use Rattle.std.specs.Prelude.{◌≡◌, ◌≤◌, length, take};
+ghost use Rattle.std.specs.Prelude.{◌≡◌, ◌≤◌, length, min, take};
 
 // The five slices of a store as they are lent to a call: terms, cells, characters, reasons and keys.
 pub type Lent<'a> = (
@@ -41,6 +41,7 @@ pub fn least(a: usize, b: usize) -> usize
 pub fn part<T>(n: usize, s: &[T]) -> usize
     ensures within { result ≤ length s.now }
     ensures taken { result ≡ length (take result s.now) }
+    ensures least { result ≡ min n (length s.now) }
 {
     n.min(s.len())
 }
@@ -50,7 +51,9 @@ pub fn front<T>(s: &[T], n: usize) -> &[T] {
     &s[..part(n, s)]
 }
 
-pub fn front_mut<T>(s: &mut [T], n: usize) -> &mut [T] {
+pub fn front_mut<T>(s: &mut [T], n: usize) -> &mut [T]
+    ensures { result.now ≡ take n s.old }
+{
     let e = part(n, s);
     &mut s[..e]
 }

@@ -17,8 +17,7 @@ pub fn put(s: &mut [u32], i: usize, x: u32) {
 
 // The words of a slice, from place `at` of another on.
 pub fn put_all(to: &mut [u32], at: usize, from: &[u32]) {
-    if let Some(room) = to.get_mut(at..) {
-        let n = from.len().min(room.len());
-        room[..n].copy_from_slice(&from[..n]);
+    for (i, &x) in from.iter().enumerate() {
+        put(to, at.wrapping_add(i), x);
     }
 }

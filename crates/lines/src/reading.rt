@@ -1,5 +1,5 @@
 // One line: its letter, its numbers, and where it ends.
-ghost use Rattle.std.specs.Prelude.{◌-◌, ◌≤◌, length};
+ghost use Rattle.std.specs.Prelude.{◌-◌, ◌≡◌, ◌≤◌, get_or, length};
 
 use crate::put;
 use records::fields::word;
@@ -20,7 +20,9 @@ pub struct Command<'a> {
 }
 
 impl Command<'_> {
-    pub fn number(self, i: usize) -> u32 {
+    pub fn number(self, i: usize) -> u32
+        ensures { result ≡ get_or self.entry.numbers.now i 0 }
+    {
         word(self.numbers, i)
     }
 }

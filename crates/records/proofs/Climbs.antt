@@ -170,6 +170,13 @@ module _ (l : List ℕ) (n : ℕ) where
   pub top-counted : (t x : ℕ) → x ≡ climb (forest_up (terms_view l n)) n t → x ≡ top_in (terms_view l n) t
   top-counted t x e = rw view_count e
 
+-- the parent that the code reads
+pub parent-forest : (forest : Bool) (x : Term) (r : ℕ) → forest ≡ true → r ≡ x.forest_parent → r ≡ parent_of forest x
+parent-forest forest x r e h = rw e h
+
+pub parent-class : (forest : Bool) (x : Term) (r : ℕ) → forest ≡ false → r ≡ x.class_parent → r ≡ parent_of forest x
+parent-class forest x r e h = rw e h
+
 -- what the climbs require, of a store that passes the audit
 module _ (m : Lent) (c : State) where
   pub term-within : (t : ℕ) → is_term (store_of m c) t ≡ true → within c.terms t ≡ true

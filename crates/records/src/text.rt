@@ -45,7 +45,9 @@ pub(crate) fn put_text_unchecked(chars: &mut [u32], at: usize, w: &[u32])
     requires { at + length w.now ≤ length chars.old }
     ensures { CharsPut chars.old chars.new at w.now }
 {
-    chars[at..at + w.len()].copy_from_slice(w);
+    for (i, &x) in w.iter().enumerate() {
+        chars[at + i] = x;
+    }
 }
 
 // The characters of a list of terms, counted.
@@ -93,8 +95,9 @@ fn copy_text(chars: &mut [u32], from: usize, n: usize, at: usize)
     requires room { at + n ≤ length chars.old }
     ensures { CharsPut chars.old chars.new at (span chars.old from n) }
 {
-    let (below, above) = chars.split_at_mut(at);
-    above[..n].copy_from_slice(&below[from..from + n]);
+    for i in 0..n {
+        chars[at + i] = chars[from + i];
+    }
 }
 
 // Part i of a list added to the word held: `held` characters from place `to` on, above all texts. The standard joins from the left,

@@ -89,6 +89,14 @@ any_same p q e (a ∷ l) = rw (e a, any_same p q e l)
 -- KINDS
 
 module _ (s : Store) (k : ℕ) where
+  that_kind : (a : ℕ) → of_kind s k true a ≡ eqb (kind s a) k
+  unfolding of_kind
+  that_kind a = go (eqb (kind s a) k)
+    where
+      go : (x : Bool) → (if x then true else false) ≡ x
+      go true = refl
+      go false = refl
+
   other-kind : (a : ℕ) → of_kind s k false a ≡ not (eqb (kind s a) k)
   unfolding of_kind
   other-kind a = go (eqb (kind s a) k)
@@ -99,6 +107,9 @@ module _ (s : Store) (k : ℕ) where
 
   pub all-kind : (l : List ℕ) (i : ℕ) → First (of_kind s k false) l i → eqb i (length l) ≡ all (λ a. eqb (kind s a) k) l
   all-kind = first-all (of_kind s k false) (λ a. eqb (kind s a) k) other-kind
+
+  pub any-kind : (l : List ℕ) (i : ℕ) → First (of_kind s k true) l i → ltb i (length l) ≡ any (λ a. eqb (kind s a) k) l
+  any-kind l i f = first_any (of_kind s k true) l i f ∙ any_same (of_kind s k true) (λ a. eqb (kind s a) k) that_kind l
 
 pub fixed-kind : (s : Store) (l : List ℕ) (i : ℕ) → First (of_kind s 1 false) l i → eqb i (length l) ≡ fixed s l
 unfolding fixed

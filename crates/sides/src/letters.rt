@@ -1,7 +1,6 @@
 // The constants of a side and their characters: counted, walked and compared. Nothing is written.
 ghost use Rattle.std.specs.Prelude.{◌≡◌, true, ◌&&◌, ◌∷◌, ◌+◌, ◌<◌, ◌≤◌, length, take};
 ghost use Rattle.records.specs.Lists.{same_word};
-ghost use Rattle.records.specs.Kind.{kind_number};
 ghost use Rattle.records.specs.Store.{is_constant, text};
 ghost use Rattle.records.specs.View.{char_limit, span, read_in, termed};
 ghost use Rattle.records.specs.Rules.{list_limit};
@@ -12,16 +11,16 @@ use crate::stripping;
 use records::text::text_is;
 use records::{Kind, State, fields, rules};
 
-// Whether an atom is of kind k; where `is` is false, whether it is of another.
-fn is_kind(terms: &[u32], c: State, a: u32, k: Kind, is: bool) -> bool
-    ensures { result ≡ of_kind (termed terms.now c) (kind_number k) is a }
+// Whether an atom's kind is k; where `is` is false, whether it is another.
+fn is_kind(terms: &[u32], c: State, a: u32, k: u32, is: bool) -> bool
+    ensures { result ≡ of_kind (termed terms.now c) k is a }
 {
-    rules::is_a(terms, c.terms, a, k) == is
+    (rules::kind_of(terms, c.terms, a) == k) == is
 }
 
 // The place of the first atom whose kind is k, or is another; the list's end where there is none.
-pub fn first_of_kind_unchecked(terms: &[u32], c: State, l: &[u32], k: Kind, is: bool) -> usize
-    ensures { First (of_kind (termed terms.now c) (kind_number k) is) l.now result }
+pub fn first_of_kind_unchecked(terms: &[u32], c: State, l: &[u32], k: u32, is: bool) -> usize
+    ensures { First (of_kind (termed terms.now c) k is) l.now result }
 {
     l.iter()
         .position(|&a| is_kind(terms, c, a, k, is))
@@ -32,7 +31,7 @@ pub fn first_of_kind_unchecked(terms: &[u32], c: State, l: &[u32], k: Kind, is: 
 pub fn is_fixed(terms: &[u32], c: State, l: &[u32]) -> bool
     ensures { result ≡ fixed (termed terms.now c) l.now }
 {
-    first_of_kind_unchecked(terms, c, l, Kind::Constant, false) == l.len()
+    first_of_kind_unchecked(terms, c, l, u32::from(Kind::Constant), false) == l.len()
 }
 
 // Which of two lists is all constants: 1 for the left one, where both are too, 2 for the right one, 0 for none.

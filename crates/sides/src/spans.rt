@@ -18,7 +18,7 @@ use records::{Kind, Refusal, State, rules};
 pub fn first_variable_unchecked(terms: &[u32], c: State, side: &[u32]) -> usize
     ensures { FirstVariable (termed terms.now c) side.now result }
 {
-    letters::first_of_kind_unchecked(terms, c, side, Kind::Constant, false)
+    letters::first_of_kind_unchecked(terms, c, side, u32::from(Kind::Constant), false)
 }
 
 // Whether one word for the side's k variables fits: there is a length m with k × m + n = l, where the word has l characters and the side

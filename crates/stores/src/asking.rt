@@ -1,7 +1,7 @@
 // The calls, each on the slices as they are lent.
-use crate::Store;
-use crate::keeping::{kept, save};
+use crate::keeping::{Old, kept, save};
 use crate::saying::{tell, verdict};
+use crate::{CELL_WORDS, CHAR_WORDS, Store, TERM_WORDS};
 use lines::reading::Command;
 use records::{Refusal, State};
 use std::io;
@@ -59,7 +59,12 @@ fn make(m: Making, s: &mut Store) -> Result<(u32, State), Refusal> {
 }
 
 pub(crate) fn ask_make(rt: &impl Print, m: Making, name: &[u8], s: &mut Store) -> io::Result<()> {
-    let old = save(s);
+    let mut old = Old {
+        terms: [0; TERM_WORDS],
+        cells: [0; CELL_WORDS],
+        chars: [0; CHAR_WORDS],
+    };
+    save(s, &mut old);
     let r = make(m, s);
     let same = kept(r, s, &old);
     tell(rt, name, r, same, s)

@@ -4,20 +4,18 @@ use lines::indexing::term_place;
 use lines::lending::{front, rest};
 use records::{CELL_LIMIT, CELL_WIDTH, Refusal, State, TERM_WIDTH};
 
-// The words before a call.
+// The words before a call. They are copied into it, not answered: an answer of this size is copied once more.
 #[derive(Drop)]
 pub(crate) struct Old {
-    terms: [u32; TERM_WORDS],
-    cells: [u32; CELL_WORDS],
-    chars: [u32; CHAR_WORDS],
+    pub terms: [u32; TERM_WORDS],
+    pub cells: [u32; CELL_WORDS],
+    pub chars: [u32; CHAR_WORDS],
 }
 
-pub(crate) fn save(s: &Store) -> Old {
-    Old {
-        terms: s.terms,
-        cells: s.cells,
-        chars: s.chars,
-    }
+pub(crate) fn save(s: &Store, old: &mut Old) {
+    old.terms.copy_from_slice(&s.terms);
+    old.cells.copy_from_slice(&s.cells);
+    old.chars.copy_from_slice(&s.chars);
 }
 
 // Whether n words from word `at` on are those of before.

@@ -6,7 +6,7 @@ use Prim.Native.Nat.{ℕ, suc, ◌+◌, ◌*◌, ◌<◌, ◌≤◌}
 use native.Mathlib.Numerals.{add-one}
 use native.Mathlib.Nat.{add_assoc}
 use native.Mathlib.Omega.{arith}
-use lib.ListN.{length, get_or, take, drop, length-append, drop_of_length-le, take-append-drop}
+use lib.ListN.{length, get_or, set, take, drop, length-append, drop_of_length-le, take-append-drop}
 use lib.Seq.{drop-cons, take-suc, take_all}
 use Rattle.records.specs.Lists.{table, concat_map, same_word, Every}
 use Rattle.records.specs.View.{span, text_at, term_at, lengths, chars_view}
@@ -15,7 +15,7 @@ use Rattle.records.specs.Working.Standard.{standard_join, HoldsJoin, PartAdded}
 use Rattle.records.proofs.Lists.{left_false, word-append, every_at, every_map, every_left, table_at_lem, table_same, table_add, table-length, concat_map-same}
 use Rattle.records.proofs.Standard.{join-next, join-all, join-same}
 use Rattle.records.proofs.Loops.{Summing, summing_turn}
-use Rattle.records.proofs.Refines.Texts.{lower_view, put_word}
+use Rattle.records.proofs.Refines.Texts.{Copied, copied-one, copied_all, lower_view, put_word}
 
 -- COUNTED
 
@@ -50,6 +50,16 @@ pub summed_one : (l ts : List ℕ) (total i n : ℕ) → Summing (lengths l) 429
 summed_one l ts total i n s h e b = summing_turn (lengths l) 4294967295 ts total i s (λ t. (term_at l t).second) (lengths-cons l) n h e b
 
 -- COPIED within the slice, from below the place
+
+module _ (l l' : List ℕ) (from n to i : ℕ) (a : Copied l l' to (span l from n) i) where
+  pub moved-one : i < n → from + n ≤ to → to + n ≤ length l → Copied l (set l' (to + i) (get_or l' (from + i) 0)) to (span l from n) (i + 1)
+  moved-one h b f =
+      let m = table-length (λ j. get_or l (from + j) 0) n in
+      copied-one l l' to (span l from n) i (get_or l' (from + i) 0) a (omega arith) (omega arith)
+      (a.lower (from + i) (omega arith) ∙ sym (table_at_lem (λ j. get_or l (from + j) 0) n i 0 h))
+
+  pub moved_all : n ≤ i → CharsPut l l' to (span l from n)
+  moved_all h = let m = table-length (λ j. get_or l (from + j) 0) n in copied_all l l' to (span l from n) i a (omega arith)
 
 -- COMPARED text by text
 

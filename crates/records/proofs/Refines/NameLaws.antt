@@ -1,7 +1,7 @@
 -- Names are unique (src/unique.rt): hashes of texts, chains of variables by their hashes, and a walk down one chain.
 use mathlib.Core.Path.{◌≡◌, refl, sym, ap, ◌∙◌}
 use mathlib.Core.Bool.{Bool, true, false, not, ◌&&◌}
-use mathlib.Core.List.{List, []}
+use mathlib.Core.List.{List, [], ◌∷◌, ◌++◌}
 use Prim.Native.Nat.{ℕ, suc, ◌+◌, ◌-◌, ◌*◌, ◌/◌, ◌%◌, ◌<◌, ◌≤◌}
 use mathlib.Core.Logic.{◌⊎◌, ⊎_elim}
 use native.Mathlib.Nat.{eq-or-lt_of_le}
@@ -23,6 +23,11 @@ use Rattle.records.proofs.Views.{term_is, part-span, text-span, first-at, second
 use Rattle.records.proofs.Grown.{kind-term, present}
 
 -- HASHES
+
+pub hash-append : (h x : ℕ) (w : List ℕ) → hash_from h (w ++ (x ∷ [])) ≡ mixed (hash_from h w) x
+unfolding hash_from
+hash-append h x [] = refl
+hash-append h x (y ∷ w) = hash-append (mixed h y) x w
 
 pub hash-turn : (w : List ℕ) (h i x a : ℕ) → hash_from h (drop i w) ≡ a → i < length w → x ≡ get_or w i 0 → hash_from ((69069 * h + h / 65536 + x) % 4294967291) (drop (i + 1) w) ≡ a
 unfolding hash_from mixed

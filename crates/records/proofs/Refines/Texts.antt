@@ -7,10 +7,8 @@ use Prim.Native.Nat.{ℕ, ◌+◌, ◌-◌, ◌<◌, ◌≤◌}
 use native.Mathlib.Numerals.{add-one}
 use native.Mathlib.Nat.{le_antisymm, eq-or-lt_of_le}
 use native.Mathlib.Omega.{arith}
-use lib.ListN.{length, take, drop, get_or, set, length-set, length-append, length-take, get_or-append}
-use borrow.Rule.Slice.PartMut.{put_mid, post_of}
-use Rattle.std.proofs.lemmas.Slice.{take-put_mid, take-put_mid_below}
-use lib.Seq.{ext_get_or, get_or-take, get_or-set_same, get_or-set_other, length-take-le, take-append_seam, drop-append_seam}
+use lib.ListN.{length, take, drop, get_or, set, length-set, length-take}
+use lib.Seq.{ext_get_or, get_or-take, get_or-set_same, get_or-set_other}
 use lib.Dec.{eqb}
 use lib.Pointwise.{pointwise}
 use borrow.Author.Tests.{eqb-true, eq-eqb, ne_eqb}
@@ -75,37 +73,15 @@ view-take l n h =
     let r : i < n = omega arith in
     table_at_lem (λ j. get_or l j 0) n i 0 r ∙ sym (get_or-take n l i 0 r))
 
--- a word copied over a part of a slice, which the library writes so
-pub part-put : (l w : List ℕ) (n j : ℕ) → n + length w ≤ length l → CharsPut l (put_mid n j l w) n w
-part-put l w n j h =
-    let m = length-take-le n l (omega arith) in
-    let a = length-append (take n l) (w ++ post_of n j l) in
-    let b = length-append w (post_of n j l) in
-    let k = view-take l n (omega arith) in
-    record {
-      grown = view-take (put_mid n j l w) (n + length w) (omega arith) ∙ take-put_mid n j l w (n + length w) refl (omega arith) ∙ ap (λ (x : List ℕ). x ++ w) (sym k);
-      kept = view-take (put_mid n j l w) n (omega arith) ∙ take-put_mid_below n j l w n (omega arith) (omega arith) ∙ sym k;
-    }
-
--- a part of a slice copied above it, where the slice was cut in two
-pub part-moved : (l b a w : List ℕ) (from n : ℕ) → l ≡ b ++ a → from + n ≤ length b → n ≤ length a → w ≡ take (from + n - from) (drop from b)
-    → CharsPut l (b ++ (w ++ drop n a)) (length b) (span l from n)
-part-moved l b a w from n c h k e =
-    let q : from + n - from ≡ n = omega arith in
-    let p : w ≡ span b from n = (rw q at e) ∙ part-span b from n h in
-    let s : span b from n ≡ span (b ++ a) from n = table_same (λ i. get_or b (from + i) 0) (λ i. get_or (b ++ a) (from + i) 0) n (λ i j. sym (get_or-append b a 0 (from + i) (omega arith))) in
-    let m : length w ≡ n = ap length p ∙ table-length (λ i. get_or b (from + i) 0) n in
-    let f : take (length b) (b ++ a) ≡ b = take-append_seam b a in
-    let g : post_of (length b) n (b ++ a) ≡ drop n a = ap (drop n) (drop-append_seam b a) in
-    let t = part-put (b ++ a) w (length b) n (simp length-append (omega arith)) in
-    rw (c, ← s, ← p) (rw (f, g) at t)
-
 -- the first i characters of w stand from place n on, and what was below n is there still
 pub record Copied (l l' : List ℕ) (n : ℕ) (w : List ℕ) (i : ℕ) : Type 0 where
   pub within : i ≤ length w
   pub long : length l' ≡ length l
   pub lower : (j : ℕ) → j < n → get_or l' j 0 ≡ get_or l j 0
   pub copied : (k : ℕ) → k < i → get_or l' (n + k) 0 ≡ get_or w k 0
+
+pub copied_none : (l : List ℕ) (n : ℕ) (w : List ℕ) → Copied l l n w 0
+copied_none l n w = record { within = omega arith; long = refl; lower = λ j h. refl; copied = λ k h. absurd (omega arith) }
 
 pub copied-one : (l l' : List ℕ) (n : ℕ) (w : List ℕ) (i v : ℕ) → Copied l l' n w i → i < length w → n + length w ≤ length l → v ≡ get_or w i 0
     → Copied l (set l' (n + i) v) n w (i + 1)

@@ -1,10 +1,15 @@
-use native.Mathlib.Omega.{arith}
-use Rattle.records.proofs.Refines.Texts.{part-moved}
+use Rattle.records.proofs.Refines.JoinedTexts.{moved-one, moved_all}
+use Rattle.records.proofs.Refines.Texts.{copied_none}
 use Rattle.records.proofs.text.copy_text.Goals as goal
+
+pub loop-i-init : goal.loop-i-init
+loop-i-init c =
+    copied_none _ _ _
+
+pub loop-i-preserved : goal.loop-i-preserved
+loop-i-preserved c =
+    moved-one _ _ _ _ _ _ c.loop-i.invariant c.loop-i-test.true c.requires.below c.requires.room
 
 pub returns : goal.returns
 returns c =
-    let s = c.split_at_mut-below in
-    let f = s.ensures.front_len in
-    let b = s.ensures.back_len in
-    rw f at (part-moved c.args.chars.now s.result.0.now s.result.1.now _ c.args.from c.args.n s.ensures.value (omega arith) (omega arith) c.copy_from_slice.ensures.after)
+    moved_all _ _ _ _ _ _ c.loop-i.invariant c.loop-i-test.false
